@@ -1,0 +1,6 @@
+pub mod Choose
+pub mod Meaning
+pub mod Minutes
+pub mod Posts
+pub mod Refusal
+pub mod Sizes
