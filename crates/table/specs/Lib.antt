@@ -1,2 +1,5 @@
 pub mod Grammar
 pub mod Kinds
+pub mod Refusal
+pub mod Rules
+pub mod Spellings
