@@ -1,0 +1,4 @@
+pub mod Cursors
+pub mod Lexemes
+pub mod Refusal
+pub mod Words
