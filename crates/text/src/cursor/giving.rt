@@ -67,6 +67,18 @@ impl<'a> Run<'a> {
     }
 }
 
+impl Word<'_> {
+    // The byte place at which the word begins.
+    pub fn place(&self) -> usize
+        ensures { λ r. ⌜ r ≡ seen (now (self .entry)) .place ⌝ }
+    {
+        match self {
+            Word::Number(run) => run.place,
+            Word::Spelled(run) => run.place,
+        }
+    }
+}
+
 // Whether the byte parts words.
 fn is_separator(byte: u8) -> bool
     ensures { λ r. ⌜ r ≡ separates byte ⌝ }
