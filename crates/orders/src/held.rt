@@ -1,4 +1,7 @@
 // The table that the program holds: WHEN order, PARK, or WHEN order ELSE order.
+ghost use mathlib.Core.Path.{_≡_};
+ghost use Rattle.std.specs.Vec.{made};
+ghost use Rattle.orders.specs.Held.{Held, entry};
 use std::alloc::AllocError;
 use std::alloc::Global;
 use table::drafts::Draft;
@@ -8,17 +11,37 @@ use table::drafts::Production;
 use table::drafts::Spelling;
 use table::kinds::KindSet;
 
-const INHERIT: Operation = Operation { number: 0, first: 0, second: 0 };
+const INHERIT: Operation = Operation {
+    number: 0,
+    first: 0,
+    second: 0,
+};
 
-fn production(left: u8, sight: KindSet, items: Vec<Item>) -> Production {
-    Production { left, test: 0, sight, items, result: INHERIT }
+fn production(left: u8, sight: KindSet, items: Vec<Item>) -> Production
+    ensures { λ r. ⌜ r ≡ record { left = left; test = 0; sight = sight; items = items; result = record { number = 0; first = 0; second = 0 } } ⌝ }
+{
+    Production {
+        left,
+        test: 0,
+        sight,
+        items,
+        result: INHERIT,
+    }
 }
 
-fn spelling(heap: Global, kind: u8, letters: &[u8]) -> Result<Spelling, AllocError> {
-    Ok(Spelling { kind, number: 0, letters: letters.to_vec(heap)? })
+fn spelling(heap: Global, kind: u8, letters: &[u8]) -> Result<Spelling, AllocError>
+    ensures { λ r. ⌜ made r (λ s. entry s ≡ record { kind = kind; number = 0; letters = now (letters .entry) }) ⌝ }
+{
+    Ok(Spelling {
+        kind,
+        number: 0,
+        letters: letters.to_vec(heap)?,
+    })
 }
 
-pub fn held_draft(heap: Global) -> Result<Draft, AllocError> {
+pub fn held_draft(heap: Global) -> Result<Draft, AllocError>
+    ensures { λ r. ⌜ made r Held ⌝ }
+{
     let full = KindSet::full();
     let order = Item::Nonterminal(0, INHERIT);
     let otherwise = Item::Nonterminal(1, INHERIT);
@@ -33,5 +56,10 @@ pub fn held_draft(heap: Global) -> Result<Draft, AllocError> {
         spelling(heap, 2, b"PARK")?,
         spelling(heap, 3, b"ELSE")?,
     ]?;
-    Ok(Draft { nonterminals: 2, kinds: 4, productions, spellings })
+    Ok(Draft {
+        nonterminals: 2,
+        kinds: 4,
+        productions,
+        spellings,
+    })
 }

@@ -5,8 +5,6 @@ mod lines;
 use domain::minutes::Minutes;
 use domain::minutes::MinutesDomain;
 use held::held_draft;
-use lines::Line;
-use lines::LineDisplay;
 use lines::sheet_line;
 use std::error::AnyError;
 use std::io::Read;
@@ -15,7 +13,9 @@ use text::lexemes::MOST_BYTES;
 // The text of standard input, cut where it is seen to be too long.
 fn read_sheet(rt: &LibcRuntime) -> Result<Vec<u8>, AnyError> {
     let mut text = Vec::new(rt.alloc());
-    rt.stdin().take(MOST_BYTES as u64 + 1).read_to_end(&mut text)?;
+    rt.stdin()
+        .take(MOST_BYTES as u64 + 1)
+        .read_to_end(&mut text)?;
     Ok(text)
 }
 

@@ -33,11 +33,20 @@ pub impl From<Refused<u8>> for KindsError as KindsErrorFromRefused {
 }
 
 // The kinds of the text's words in the table, in order, or the first word's fault.
-pub fn kinds<D: Domain>(text: &[u8], table: &Table, domain: &D, heap: Global) -> Result<Vec<u8>, KindsError>
+pub fn kinds<D: Domain>(
+    text: &[u8],
+    table: &Table,
+    domain: &D,
+    heap: Global,
+) -> Result<Vec<u8>, KindsError>
     ensures { λ r. ⌜ Told (sheet-kinds (D·Domain .meaning (now (domain .entry))) (spellings (now (table .entry) .draft)) (now (text .entry))) r ⌝ }
 {
     if let Err(fault) = check_length(text) {
-        return Err(KindsError::Denied(Denial { fault: fault.into(), byte: 0, word: 0 }));
+        return Err(KindsError::Denied(Denial {
+            fault: fault.into(),
+            byte: 0,
+            word: 0,
+        }));
     }
     let mut kinds = Vec::new(heap);
     let mut cursor = Cursor::new(text);
@@ -46,7 +55,11 @@ pub fn kinds<D: Domain>(text: &[u8], table: &Table, domain: &D, heap: Global) ->
             Ok(token) => kinds.push(token.kind)?,
             Err(fault) => {
                 let byte = word.place();
-                return Err(KindsError::Denied(Denial { fault, byte, word: cursor.count() }));
+                return Err(KindsError::Denied(Denial {
+                    fault,
+                    byte,
+                    word: cursor.count(),
+                }));
             }
         }
     }

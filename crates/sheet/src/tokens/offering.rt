@@ -12,10 +12,17 @@ use table::made::Table;
 use text::words::Word;
 
 // The word's kind in the table and the domain's value of its number.
-pub fn tokenize<D: Domain>(word: &Word<'_>, table: &Table, domain: &D) -> Result<Token<D::Value>, Fault>
+pub fn tokenize<D: Domain>(
+    word: &Word<'_>,
+    table: &Table,
+    domain: &D,
+) -> Result<Token<D::Value>, Fault>
     ensures { λ r. ⌜ r ≡ token (D·Domain .meaning (now (domain .entry))) (spellings (now (table .entry) .draft)) (seen (now (word .entry))) ⌝ }
 {
     let lexeme = word.lexeme(table)?;
     let value = lexeme.value(domain)?;
-    Ok(Token { kind: lexeme.kind, value })
+    Ok(Token {
+        kind: lexeme.kind,
+        value,
+    })
 }
