@@ -23,7 +23,8 @@ impl KindSet {
     pub fn bits(self) -> u64
         ensures { λ r. ⌜ r ≡ self .bits ⌝ }
     {
-        self.bits
+        let KindSet { bits } = self;
+        bits
     }
 
     // The set of all kinds, with the end mark.

@@ -29,7 +29,8 @@ impl<'a> Cursor<'a> {
     pub fn count(&self) -> usize
         ensures { λ r. ⌜ r ≡ now (self .entry) .count ⌝ }
     {
-        self.count
+        let given = self.count;
+        given
     }
 
     // The next word, where there is one; the cursor then stands at the word's end, or at the text's.
