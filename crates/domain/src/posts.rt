@@ -7,6 +7,8 @@ ghost use Rattle.domain.specs.Sizes.{posts-sized};
 mod questions;
 mod sets;
 
+pub use questions::PostsDomain;
+
 // A set of posts: bit b stands for post b + 1.
 #[derive(Clone, Copy)]
 pub struct PostSet {

@@ -1,11 +1,8 @@
 // Reads a sheet from standard input with the table that the program holds, and prints one line.
-mod held;
-mod lines;
-
 use domain::minutes::Minutes;
 use domain::minutes::MinutesDomain;
-use held::held_draft;
-use lines::sheet_line;
+use held::drafts::held_draft;
+use held::lines::sheet_line;
 use std::error::AnyError;
 use std::io::Read;
 use text::lexemes::MOST_BYTES;

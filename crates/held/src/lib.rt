@@ -1,0 +1,3 @@
+// The table that the program holds, and the line that tells what came of a sheet.
+pub mod drafts;
+pub mod lines;

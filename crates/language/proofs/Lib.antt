@@ -1,0 +1,13 @@
+pub mod Agreement
+pub mod Chosen
+pub mod Complete
+pub mod Follows
+pub mod Keeps
+pub mod Pairs
+pub mod Reached
+pub mod Sound
+pub mod Stacks
+pub mod Wider
+pub mod Words
+pub mod Worked
+pub mod Written

@@ -1,0 +1,10 @@
+pub mod Cases
+pub mod Configurations
+pub mod Derivations
+pub mod Law
+pub mod Limits
+pub mod Reader
+pub mod Refusal
+pub mod Runs
+pub mod Settling
+pub mod Tables

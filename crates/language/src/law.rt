@@ -1,0 +1,8 @@
+// The law of one language, for every domain.
+ghost use Rattle.language.specs.Law.{Law};
+use domain::Domain;
+
+// Names the law for the domain's meaning; it computes nothing.
+pub fn one_language<D: Domain>(domain: &D)
+    ensures { λ _. ⌜ Law (meaning (now (domain .entry))) ⌝ }
+{}
