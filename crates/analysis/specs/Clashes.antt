@@ -5,7 +5,7 @@ use mathlib.Core.List.{List}
 use Prim.Native.Nat.{ℕ, _<_}
 use Rattle.domain.specs.Meaning.{Classes}
 use Rattle.table.specs.Grammar.{Production}
-use Rattle.analysis.specs.Sets.{At, Predict, end-mark}
+use Rattle.sets.specs.Sets.{At, Predict, end-mark}
 
 -- what the production's test says at the classes of the inherited value and of the word in sight
 abbrev pub tested : Classes → Production → ℕ → ℕ → Bool

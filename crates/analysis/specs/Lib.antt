@@ -1,2 +1,4 @@
+pub mod Chances
 pub mod Clashes
-pub mod Sets
+pub mod Searches
+pub mod Verdict

@@ -1,1 +1,7 @@
-// First, Follow and Predict sets of a table, and the strong test that one word decides.
+// The strong test, whether one word of sight decides, and the tables that pass it.
+mod chances;
+pub mod faults;
+pub mod passed;
+pub mod passing;
+mod search;
+pub mod verdict;

@@ -8,7 +8,7 @@ use Rattle.std.proofs.shelf.Tests.{cond-true, cond-false, cases-bool}
 use mathlib.Core.Logic.{_⊎_, inl, inr}
 use Rattle.std.specs.declared.option.Option.the-variants.{Some}
 use Rattle.table.specs.Grammar.{Production}
-use Rattle.analysis.specs.Sets.{At}
+use Rattle.sets.specs.Sets.{At}
 use Rattle.language.specs.Reader.{Choice, first-from}
 
 abbrev choice : ℕ → Production → Choice

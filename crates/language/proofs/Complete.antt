@@ -14,7 +14,7 @@ use Rattle.std.specs.declared.result.Result.the-variants.{Ok}
 use Rattle.domain.specs.Meaning.{Meaning, Lawful}
 use Rattle.table.specs.Grammar.{Production}
 use Rattle.analysis.specs.Clashes.{Clash-free, Eligible}
-use Rattle.analysis.specs.Sets.{At, Predict, end-mark}
+use Rattle.sets.specs.Sets.{At, Predict, end-mark}
 use Rattle.language.specs.declared.faults.ReadingFault.{ReadingFault}
 use Rattle.language.specs.Configurations.{Word, Next, Config, Outcome, a-kind, a-nonterminal, nothing}
 use Rattle.language.specs.Derivations.{Sight, of-word, of-end, allowed, Predicts, predicting, Takes, taking}

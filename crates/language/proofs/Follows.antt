@@ -10,7 +10,7 @@ use Rattle.table.specs.declared.drafts.Item.{Item}
 use Rattle.table.specs.declared.drafts.Item.the-variants.{Kind, Nonterminal}
 use Rattle.table.specs.declared.drafts.Operation.{Operation}
 use Rattle.table.specs.Grammar.{Production}
-use Rattle.analysis.specs.Sets.{At, Empty, First, Follow, Predict, end-mark, at-end, before, last}
+use Rattle.sets.specs.Sets.{At, Empty, First, Follow, Predict, end-mark, at-end, before, last}
 use Rattle.language.specs.Configurations.{Frame, Next, Config, a-kind, a-nonterminal, nothing}
 use Rattle.language.specs.Derivations.{Sight, Predicts, done, predicting}
 use Rattle.language.specs.Limits.{Limits}

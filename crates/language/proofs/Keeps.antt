@@ -8,7 +8,7 @@ use Rattle.std.specs.declared.option.Option.{Option}
 use Rattle.std.specs.declared.option.Option.the-variants.{Some, None}
 use Rattle.domain.specs.Meaning.{Meaning}
 use Rattle.table.specs.Grammar.{Production}
-use Rattle.analysis.specs.Sets.{At}
+use Rattle.sets.specs.Sets.{At}
 use Rattle.language.specs.Configurations.{Frame, Config}
 use Rattle.language.specs.Derivations.{Sight, allowed, Predicts, done, predicting}
 use Rattle.language.specs.Limits.{Limits}

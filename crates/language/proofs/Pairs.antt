@@ -9,7 +9,7 @@ use Rattle.std.proofs.shelf.Tests.{and-parts, ltb-true}
 use Rattle.table.specs.declared.drafts.Item.{Item}
 use Rattle.table.specs.declared.drafts.Item.the-variants.{Kind, Nonterminal, Check}
 use Rattle.table.specs.Grammar.{Production}
-use Rattle.analysis.specs.Sets.{At}
+use Rattle.sets.specs.Sets.{At}
 
 -- the first stands before the second
 pub data Pair {X : Type 0} : List X → ℕ → X → ℕ → X → Type 0 where

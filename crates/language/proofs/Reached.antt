@@ -7,7 +7,7 @@ use Rattle.table.specs.declared.drafts.Item.{Item}
 use Rattle.table.specs.declared.drafts.Item.the-variants.{Kind, Nonterminal, Check}
 use Rattle.table.specs.declared.drafts.Operation.{Operation}
 use Rattle.table.specs.Grammar.{Production}
-use Rattle.analysis.specs.Sets.{Empty, First}
+use Rattle.sets.specs.Sets.{Empty, First}
 use Rattle.language.specs.Settling.{Reach, to-kind, to-nonterminal, to-end, to-no, slot, checked, advance}
 
 -- the run is `post` after checks alone

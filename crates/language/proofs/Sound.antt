@@ -12,7 +12,7 @@ use Rattle.std.specs.declared.option.Option.the-variants.{Some, None}
 use Rattle.std.specs.declared.result.Result.{Result}
 use Rattle.std.specs.declared.result.Result.the-variants.{Ok, Err}
 use Rattle.domain.specs.Meaning.{Meaning}
-use Rattle.analysis.specs.Sets.{At}
+use Rattle.sets.specs.Sets.{At}
 use Rattle.language.specs.declared.faults.ReadingFault.{ReadingFault}
 use Rattle.language.specs.declared.faults.ReadingFault.the-variants.{UnknownKind, TooManyPredictions, TooManyOpen, TrailFull, OtherKind}
 use Rattle.language.specs.Configurations.{Word, Next, Config, Outcome, a-kind, a-nonterminal, nothing}

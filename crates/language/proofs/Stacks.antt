@@ -5,7 +5,7 @@ use Rattle.table.specs.declared.drafts.Item.{Item}
 use Rattle.table.specs.declared.drafts.Item.the-variants.{Kind, Nonterminal}
 use Rattle.table.specs.declared.drafts.Operation.{Operation}
 use Rattle.table.specs.Grammar.{Production}
-use Rattle.analysis.specs.Sets.{At, Stands, here, later}
+use Rattle.sets.specs.Sets.{At, Stands, here, later}
 use Rattle.language.specs.Configurations.{Frame, Next, a-kind, a-nonterminal, nothing}
 use Rattle.language.proofs.Reached.{Past}
 

@@ -10,7 +10,7 @@ use lib.ListN.{getD}
 use Rattle.std.proofs.shelf.Tests.{false≢true, both-ways, not-true, and-parts, or-cases, eqb-true}
 use Rattle.table.specs.Grammar.{Production}
 use Rattle.analysis.specs.Clashes.{Clash, tested}
-use Rattle.analysis.specs.Sets.{At, Stands, Empty, First, Follow, Predict}
+use Rattle.sets.specs.Sets.{At, Stands, Empty, First, Follow, Predict}
 use Rattle.language.specs.Cases.{day, cut-day, Worked}
 use Rattle.language.specs.Tables.{member, full, without-else, w-table, q-table, s-table}
 use Rattle.language.proofs.Pairs.{Pair, head, tail, pair, kinds-below}

@@ -9,7 +9,7 @@ use Rattle.std.proofs.shelf.Tests.{false≢true, and-parts, and-from, or-left, 
 use Rattle.table.specs.declared.drafts.Item.{Item}
 use Rattle.table.specs.declared.drafts.Item.the-variants.{Kind, Nonterminal, Check}
 use Rattle.table.specs.Grammar.{Production}
-use Rattle.analysis.specs.Sets.{At, Stands, Empty, First, Follow, Predict, end-mark}
+use Rattle.sets.specs.Sets.{At, Stands, Empty, First, Follow, Predict, end-mark}
 use Rattle.language.specs.Tables.{member}
 
 abbrev within : List ℕ → List ℕ → Bool

@@ -12,7 +12,7 @@ use Rattle.domain.specs.Minutes.{minutes}
 use Rattle.domain.specs.Posts.{posts, written}
 use Rattle.domain.specs.declared.posts.PostSet.{PostSet}
 use Rattle.analysis.specs.Clashes.{Clash, Clash-free}
-use Rattle.analysis.specs.Sets.{Follow}
+use Rattle.sets.specs.Sets.{Follow}
 use Rattle.language.specs.declared.faults.ReadingFault.{ReadingFault}
 use Rattle.language.specs.Configurations.{Word, Config}
 use Rattle.language.specs.Law.{Made}

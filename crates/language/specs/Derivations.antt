@@ -9,7 +9,7 @@ use Rattle.std.specs.declared.option.Option.the-variants.{Some}
 use Rattle.domain.specs.Meaning.{Meaning}
 use Rattle.table.specs.Grammar.{Production}
 use Rattle.analysis.specs.Clashes.{tested}
-use Rattle.analysis.specs.Sets.{At, end-mark}
+use Rattle.sets.specs.Sets.{At, end-mark}
 use Rattle.language.specs.Configurations.{Word, Config, Outcome, a-kind, a-nonterminal, nothing, start}
 use Rattle.language.specs.Limits.{Limits}
 use Rattle.language.specs.Settling.{give, opened}

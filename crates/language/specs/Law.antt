@@ -10,7 +10,7 @@ use Rattle.domain.specs.Meaning.{Meaning}
 use Rattle.table.specs.declared.drafts.Item.the-variants.{Kind}
 use Rattle.table.specs.Grammar.{Production}
 use Rattle.analysis.specs.Clashes.{Clash-free}
-use Rattle.analysis.specs.Sets.{At, Predict, end-mark}
+use Rattle.sets.specs.Sets.{At, Predict, end-mark}
 use Rattle.language.specs.declared.faults.ReadingFault.{ReadingFault}
 use Rattle.language.specs.Configurations.{Word, Config, Outcome}
 use Rattle.language.specs.Derivations.{Open-derivation, Derivation}

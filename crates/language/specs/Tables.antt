@@ -7,7 +7,7 @@ use lib.ListN.{getD}
 use Rattle.table.specs.declared.drafts.Item.the-variants.{Kind, Nonterminal}
 use Rattle.table.specs.declared.drafts.Operation.{Operation}
 use Rattle.table.specs.Grammar.{Production}
-use Rattle.analysis.specs.Sets.{end-mark}
+use Rattle.sets.specs.Sets.{end-mark}
 use Rattle.language.specs.Reader.{Guide}
 
 abbrev pub rule : ℕ → ℕ → ℕ → Operation

@@ -42,6 +42,22 @@ pub data Follow (g : List Production) : ℕ → ℕ → Type 0 where
   before : {a n k : ℕ} {p : Production} {post : List Item} → At g n p → Stands (p .items) a post → First g post k → Follow g a k
   last : {a n k : ℕ} {p : Production} {post : List Item} → At g n p → Stands (p .items) a post → Empty g post → Follow g (p .left) k → Follow g a k
 
+-- nonterminal a can be empty: one of its productions can
+pub record Can-be-empty (g : List Production) (a : ℕ) : Type 0 where
+  pub place : ℕ
+  pub production : Production
+  pub stands : At g place production
+  pub left : production .left ≡ a
+  pub items : Empty g (production .items)
+
+-- nonterminal a can begin with a word of kind k: one of its productions can
+pub record Can-begin (g : List Production) (a k : ℕ) : Type 0 where
+  pub place : ℕ
+  pub production : Production
+  pub stands : At g place production
+  pub left : production .left ≡ a
+  pub items : First g (production .items) k
+
 -- with kind k in sight, the production may be the one to predict
 abbrev pub Predict : List Production → Production → ℕ → Type 0
 Predict g p k = First g (p .items) k ⊎ (Empty g (p .items) × Follow g (p .left) k)

@@ -1,0 +1,3 @@
+mod Asking
+mod Matching
+mod Searching

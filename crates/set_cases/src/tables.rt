@@ -1,0 +1,60 @@
+// Tables as a line writes them.
+use crate::numbers::Rest;
+use std::alloc::Global;
+use std::error::AnyError;
+use table::drafts::Draft;
+use table::drafts::Item;
+use table::drafts::Operation;
+use table::drafts::Production;
+use table::kinds::KindSet;
+
+fn read_operation(from: &mut Rest<'_>) -> Result<Operation, AnyError> {
+    Ok(Operation {
+        number: from.byte()?,
+        first: from.byte()?,
+        second: from.byte()?,
+    })
+}
+
+fn read_item(from: &mut Rest<'_>) -> Result<Item, AnyError> {
+    match from.word()? {
+        1 => Ok(Item::Kind(from.byte()?)),
+        2 => Ok(Item::Nonterminal(from.byte()?, read_operation(from)?)),
+        3 => Ok(Item::Check(read_operation(from)?)),
+        _ => Err("no such item".into()),
+    }
+}
+
+fn read_production(heap: Global, from: &mut Rest<'_>) -> Result<Production, AnyError> {
+    let left = from.byte()?;
+    let test = from.byte()?;
+    let sight = KindSet::new(from.word()?);
+    let result = read_operation(from)?;
+    let mut items = Vec::new(heap);
+    for _ in 0..from.byte()? {
+        items.push(read_item(from)?)?;
+    }
+    Ok(Production {
+        left,
+        test,
+        sight,
+        items,
+        result,
+    })
+}
+
+pub fn read_draft(heap: Global, from: &mut Rest<'_>) -> Result<Draft, AnyError> {
+    let nonterminals = from.byte()?;
+    let kinds = from.byte()?;
+    let mut productions = Vec::new(heap);
+    for _ in 0..from.byte()? {
+        productions.push(read_production(heap, from)?)?;
+    }
+    from.end()?;
+    Ok(Draft {
+        nonterminals,
+        kinds,
+        productions,
+        spellings: Vec::new(heap),
+    })
+}

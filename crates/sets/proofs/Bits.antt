@@ -1,0 +1,76 @@
+-- Bits of numbers. Assumes nothing.
+use mathlib.Core.Path.{_≡_, sym, ap, _∙_}
+use mathlib.Core.Bool.{true, false, _&&_, _||_}
+use mathlib.Core.Logic.{⊎-elim}
+use Prim.Native.Nat.{ℕ, zero, suc, _+_, _*_, _/_, _%_, _^_, _<_, _≤_}
+use native.Mathlib.Nat.{div-eq-of-lt}
+use native.Mathlib.Numerals.{one-add}
+use native.Mathlib.Omega.{arith}
+use lib.Bits.{bitAnd, bitOr, or-step, and-step}
+use lib.Dec.{eqb}
+use Rattle.std.proofs.shelf.Bits.{and-mask, and-shr, or-shr, one-shl, pow-add, pow-pos, shr-shr}
+use Rattle.std.proofs.shelf.Tests.{cases-eq, eq-eqb, ne-eqb}
+use Rattle.std.proofs.shelf.Ways.{tells}
+use Rattle.table.specs.Kinds.{bit}
+use Rattle.table.proofs.Bits.{digit-pow, digit-pow-same}
+
+or-low : (x y : ℕ) → eqb (bitOr x y % 2) 1 ≡ (eqb (x % 2) 1 || eqb (y % 2) 1)
+or-low x y = let s = or-step x y in grind (arith, tells)
+
+pub bit-or : (x y k : ℕ) → bit (bitOr x y) k ≡ (bit x k || bit y k)
+bit-or x y k = ap (λ n. eqb (n % 2) 1) (or-shr x y k) ∙ or-low (x / 2 ^ k) (y / 2 ^ k)
+
+and-low : (x y : ℕ) → eqb (bitAnd x y % 2) 1 ≡ (eqb (x % 2) 1 && eqb (y % 2) 1)
+and-low x y = let s = and-step x y in grind (arith, tells)
+
+pub bit-and : (x y k : ℕ) → bit (bitAnd x y) k ≡ (bit x k && bit y k)
+bit-and x y k = ap (λ n. eqb (n % 2) 1) (and-shr x y k) ∙ and-low (x / 2 ^ k) (y / 2 ^ k)
+
+pub bit-zero : (k : ℕ) → bit 0 k ≡ false
+bit-zero k = ap (λ n. eqb (n % 2) 1) (div-eq-of-lt (pow-pos k))
+
+-- the word with bit j alone
+pub bit-power : (j k : ℕ) → bit (2 ^ j) k ≡ eqb j k
+bit-power j k = ⊎-elim same other (cases-eq j k)
+  where
+    same : j ≡ k → bit (2 ^ j) k ≡ eqb j k
+    same e = ap (λ n. bit (2 ^ n) k) e ∙ eq-eqb _ 1 (digit-pow-same k) ∙ sym (eq-eqb j k e)
+
+    other : (j ≡ k → ⊥) → bit (2 ^ j) k ≡ eqb j k
+    other ne = ap (λ n. eqb n 1) (⊎-elim (λ z. z) (λ e. absurd (ne e)) (digit-pow j k)) ∙ sym (ne-eqb j k ne)
+
+pub bit-shl : (j k : ℕ) → j < 64 → bit (1 * 2 ^ j % 2 ^ 64) k ≡ eqb j k
+bit-shl j k h = ap (λ n. bit n k) (one-shl j 64 h) ∙ bit-power j k
+
+-- the test `n >> k & 1 == 1`
+pub bit-taken : (n k : ℕ) → bitAnd (n / 2 ^ k) 1 ≡ 1 → bit n k ≡ true
+bit-taken n k e = eq-eqb _ 1 (sym (and-mask (n / 2 ^ k) 1) ∙ e)
+
+pub bit-left : (n k : ℕ) → (bitAnd (n / 2 ^ k) 1 ≡ 1 → ⊥) → bit n k ≡ false
+bit-left n k e = ne-eqb _ 1 (λ h. e (and-mask (n / 2 ^ k) 1 ∙ h))
+
+bit-half : (n k : ℕ) → bit (n / 2) k ≡ bit n (suc k)
+bit-half n k =
+    let e : 1 + k ≡ suc k = omega arith in
+    ap (λ m. eqb (m % 2) 1) (shr-shr n 1 k) ∙ ap (λ m. bit n m) e
+
+-- a number is not below one whose bits it has
+pub bits-le : (n a b : ℕ) → a < 2 ^ n → ((k : ℕ) → bit a k ≡ true → bit b k ≡ true) → a ≤ b
+bits-le zero a b h within = omega arith
+bits-le (suc n) a b h within =
+    let half : a / 2 < 2 ^ n = omega (arith, pow-add 2 1 n, one-add n) in
+    let rest : a / 2 ≤ b / 2 = bits-le n (a / 2) (b / 2) half (λ k e. bit-half b k ∙ within (suc k) (sym (bit-half a k) ∙ e)) in
+    let low : eqb (a / 1 % 2) 1 ≡ true → eqb (b / 1 % 2) 1 ≡ true = within 0 in
+    grind (arith, tells)
+
+below-power : (a : ℕ) → a < 2 ^ a
+below-power zero = omega arith
+below-power (suc a) = let h = below-power a in omega (arith, pow-add 2 1 a, one-add a)
+
+-- a number whose bits are below m is below the power
+pub bits-below : (m a : ℕ) → ((k : ℕ) → bit a k ≡ true → k < m) → a < 2 ^ m
+bits-below zero a below =
+    let none : a ≤ 0 = bits-le a a 0 (below-power a) (λ k e. let h = below k e in let no : ⊥ = omega arith in absurd no) in omega arith
+bits-below (suc m) a below =
+    let half : a / 2 < 2 ^ m = bits-below m (a / 2) (λ k e. let h = below (suc k) (sym (bit-half a k) ∙ e) in omega arith) in
+    omega (arith, pow-add 2 1 m, one-add m)

@@ -1,0 +1,5 @@
+use Rattle.sets.proofs.Going.{begins}
+use Rattle.sets.proofs.words.SetWords.start.Needs as need
+
+pub returns : need.returns
+returns c = begins
