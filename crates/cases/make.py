@@ -12,6 +12,7 @@ A line begins with what is asked; every other word is a decimal number or the na
       spelling:   KIND NUMBER LENGTH byte*
   text LENGTH byte*
   sheet LENGTH byte*
+  blank COUNT        a sheet of COUNT spaces
 """
 
 from pathlib import Path
@@ -463,7 +464,7 @@ def text_case(text):
     return words, " ".join(map(str, answer)) or "none"
 
 
-# A sheet: its words in table W, with Minutes of limit 1,440 and no cut. 13 would need a text of more than 65,536 bytes.
+# A sheet: its words in table W, with Minutes of limit 1,440 and no cut.
 
 SPELLED = {b"WHEN": 1, b"PARK": 2, b"ELSE": 3}
 
@@ -523,8 +524,14 @@ SHEETS = [
 ]
 
 
+def blank_case(count):
+    """A sheet of spaces has no words; one of over 65,536 bytes is too long."""
+    return ["blank", count], "words" if count <= 65536 else "denied 13 byte 0 word 0"
+
+
 def text_cases():
-    return [text_case(text) for text in TEXTS] + [sheet_case(text) for text in TEXTS + SHEETS]
+    blanks = [blank_case(count) for count in (0, 1, 65535, 65536, 65537, 70000)]
+    return blanks + [text_case(text) for text in TEXTS] + [sheet_case(text) for text in TEXTS + SHEETS]
 
 
 def main():
@@ -540,4 +547,5 @@ def main():
                 answered.write(f"{answer}\n")
 
 
-main()
+if __name__ == "__main__":
+    main()

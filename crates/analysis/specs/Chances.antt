@@ -1,4 +1,5 @@
--- What decides whether a production may be chosen, as words. Assumes nothing.
+-- What decides whether a production may be chosen, as words. No contract of a public function
+-- cites it. Assumes nothing.
 use mathlib.Core.Path.{_≡_}
 use mathlib.Core.Bool.{true}
 use mathlib.Core.List.{List, []}

@@ -1,4 +1,5 @@
--- What the search for the first clash finds. Assumes nothing.
+-- What the search for the first clash finds. No contract of a public function
+-- cites it. Assumes nothing.
 use Prim.Native.Nat.{ℕ}
 use Rattle.analysis.specs.declared.chances.Chances.{Chances}
 use Rattle.analysis.specs.declared.faults.CheckFault.{CheckFault}

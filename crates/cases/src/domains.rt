@@ -129,7 +129,7 @@ fn refused(fault: DomainFault, heap: Global) -> Result<String, CaseError> {
     Ok(format!(heap, "refused {number}")?)
 }
 
-pub fn minutes_case(cases: &mut Cursor<'_>, heap: Global) -> Result<String, CaseError> {
+pub(crate) fn minutes_case(cases: &mut Cursor<'_>, heap: Global) -> Result<String, CaseError> {
     let limit = number16(cases)?;
     let mut cuts = Vec::new(heap);
     for _ in 0..number(cases)? {
@@ -142,7 +142,7 @@ pub fn minutes_case(cases: &mut Cursor<'_>, heap: Global) -> Result<String, Case
     }
 }
 
-pub fn posts_case(cases: &mut Cursor<'_>, heap: Global) -> Result<String, CaseError> {
+pub(crate) fn posts_case(cases: &mut Cursor<'_>, heap: Global) -> Result<String, CaseError> {
     let count = number8(cases)?;
     let question = read_question(cases)?;
     match Posts::new(count) {

@@ -67,7 +67,7 @@ fn spelling(cases: &mut Cursor<'_>, heap: Global) -> Result<Spelling, CaseError>
     })
 }
 
-pub fn draft_case(cases: &mut Cursor<'_>, heap: Global) -> Result<String, CaseError> {
+pub(crate) fn draft_case(cases: &mut Cursor<'_>, heap: Global) -> Result<String, CaseError> {
     let nonterminals = number8(cases)?;
     let kinds = number8(cases)?;
     let mut productions = Vec::new(heap);

@@ -15,6 +15,7 @@ use std::error::AnyError;
 use std::io::Read;
 use text::cursor::Cursor;
 use text::words::Word;
+use texts::blank_case;
 use texts::sheet_case;
 use texts::text_case;
 
@@ -33,6 +34,8 @@ fn answer(word: &Word<'_>, cases: &mut Cursor<'_>, heap: Global) -> Result<Strin
         text_case(cases, heap)
     } else if asked == b"sheet" {
         sheet_case(cases, heap)
+    } else if asked == b"blank" {
+        blank_case(cases, heap)
     } else {
         Err(CaseError::Malformed)
     }

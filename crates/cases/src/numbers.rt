@@ -23,7 +23,7 @@ pub impl<T: Drop> From<Refused<T>> for CaseError as CaseErrorFromRefused {
     }
 }
 
-pub fn letters<'a>(word: &Word<'a>) -> &'a [u8] {
+pub(crate) fn letters<'a>(word: &Word<'a>) -> &'a [u8] {
     match word {
         Word::Number(run) => run.letters,
         Word::Spelled(run) => run.letters,
@@ -31,7 +31,7 @@ pub fn letters<'a>(word: &Word<'a>) -> &'a [u8] {
 }
 
 // The next word, whatever it is.
-pub fn next_letters<'a>(cases: &mut Cursor<'a>) -> Result<&'a [u8], CaseError> {
+pub(crate) fn next_letters<'a>(cases: &mut Cursor<'a>) -> Result<&'a [u8], CaseError> {
     match cases.next() {
         Some(word) => Ok(letters(&word)),
         None => Err(CaseError::Malformed),
@@ -39,9 +39,12 @@ pub fn next_letters<'a>(cases: &mut Cursor<'a>) -> Result<&'a [u8], CaseError> {
 }
 
 // The next word as a number of up to 64 bits.
-pub fn number(cases: &mut Cursor<'_>) -> Result<u64, CaseError> {
+pub(crate) fn number(cases: &mut Cursor<'_>) -> Result<u64, CaseError> {
+    let Some(Word::Number(run)) = cases.next() else {
+        return Err(CaseError::Malformed);
+    };
     let mut number: u64 = 0;
-    for digit in next_letters(cases)? {
+    for digit in run.letters {
         let shifted = number.checked_mul(10).ok_or(CaseError::Malformed)?;
         number = shifted
             .checked_add(u64::from(digit.saturating_sub(b'0')))
@@ -50,18 +53,18 @@ pub fn number(cases: &mut Cursor<'_>) -> Result<u64, CaseError> {
     Ok(number)
 }
 
-pub fn number16(cases: &mut Cursor<'_>) -> Result<u16, CaseError> {
+pub(crate) fn number16(cases: &mut Cursor<'_>) -> Result<u16, CaseError> {
     let number = number(cases)?;
     u16::try_from(number).ok().ok_or(CaseError::Malformed)
 }
 
-pub fn number8(cases: &mut Cursor<'_>) -> Result<u8, CaseError> {
+pub(crate) fn number8(cases: &mut Cursor<'_>) -> Result<u8, CaseError> {
     let number = number(cases)?;
     u8::try_from(number).ok().ok_or(CaseError::Malformed)
 }
 
 // A count, and so many bytes.
-pub fn bytes(cases: &mut Cursor<'_>, heap: Global) -> Result<Vec<u8>, CaseError> {
+pub(crate) fn bytes(cases: &mut Cursor<'_>, heap: Global) -> Result<Vec<u8>, CaseError> {
     let mut bytes = Vec::new(heap);
     let count = number(cases)?;
     for _ in 0..count {

@@ -1,9 +1,11 @@
 // Texts cut into words, and sheets read with the held table.
 use crate::numbers::CaseError;
 use crate::numbers::CaseErrorFromAlloc;
+use crate::numbers::CaseErrorFromRefused;
 use crate::numbers::bytes;
-use domain::minutes::Minutes;
+use crate::numbers::number;
 use domain::minutes::MinutesDomain;
+use held::domains::held_minutes;
 use held::drafts::held_draft;
 use held::lines::sheet_line;
 use std::alloc::Global;
@@ -23,7 +25,7 @@ fn told(word: &Word<'_>, heap: Global) -> Result<String, CaseError> {
     Ok(format!(heap, "{case} {place} {length}")?)
 }
 
-pub fn text_case(cases: &mut Cursor<'_>, heap: Global) -> Result<String, CaseError> {
+pub(crate) fn text_case(cases: &mut Cursor<'_>, heap: Global) -> Result<String, CaseError> {
     let text = bytes(cases, heap)?;
     let mut words = Cursor::new(&text);
     let mut line = String::new(heap);
@@ -42,15 +44,25 @@ pub fn text_case(cases: &mut Cursor<'_>, heap: Global) -> Result<String, CaseErr
     Ok(line)
 }
 
-pub fn sheet_case(cases: &mut Cursor<'_>, heap: Global) -> Result<String, CaseError> {
+pub(crate) fn sheet_case(cases: &mut Cursor<'_>, heap: Global) -> Result<String, CaseError> {
     let text = bytes(cases, heap)?;
+    read_sheet(&text, heap)
+}
+
+// A sheet of so many spaces.
+pub(crate) fn blank_case(cases: &mut Cursor<'_>, heap: Global) -> Result<String, CaseError> {
+    let mut text = Vec::new(heap);
+    for _ in 0..number(cases)? {
+        text.push(b' ')?;
+    }
+    read_sheet(&text, heap)
+}
+
+fn read_sheet(text: &[u8], heap: Global) -> Result<String, CaseError> {
     let draft = held_draft(heap)?;
     if draft.review().is_err() {
         return Err(CaseError::Malformed);
     }
     let table = draft.make();
-    let Ok(minutes) = Minutes::new(1440, Vec::new(heap)) else {
-        return Err(CaseError::Malformed);
-    };
-    Ok(sheet_line(&text, &table, &minutes, heap)?)
+    Ok(sheet_line(text, &table, &held_minutes(heap), heap)?)
 }

@@ -1,7 +1,7 @@
 // The table that the program holds: WHEN order, PARK, or WHEN order ELSE order.
 ghost use mathlib.Core.Path.{_≡_};
 ghost use Rattle.std.specs.Vec.{made};
-ghost use Rattle.held.specs.Held.{Held, entry};
+ghost use Rattle.held.specs.Held.{Held, entry, spelt};
 use std::alloc::AllocError;
 use std::alloc::Global;
 use table::drafts::Draft;
@@ -30,7 +30,7 @@ fn production(left: u8, sight: KindSet, items: Vec<Item>) -> Production
 }
 
 fn spelling(heap: Global, kind: u8, letters: &[u8]) -> Result<Spelling, AllocError>
-    ensures { λ r. ⌜ made r (λ s. entry s ≡ record { kind = kind; number = 0; letters = now (letters .entry) }) ⌝ }
+    ensures { λ r. ⌜ made r (λ s. entry s ≡ spelt kind (now (letters .entry))) ⌝ }
 {
     Ok(Spelling {
         kind,

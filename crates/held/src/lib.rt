@@ -1,3 +1,5 @@
-// The table that the program holds, and the line that tells what came of a sheet.
+// The table that the program holds, and the lines that it prints.
+pub mod domains;
 pub mod drafts;
 pub mod lines;
+pub mod verdicts;

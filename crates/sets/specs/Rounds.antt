@@ -1,4 +1,5 @@
--- How the sets are found: each rule is applied to what is known, round after round, until nothing is added. Assumes nothing.
+-- How the sets are found: each rule is applied to what is known, round after round, until nothing is added. No contract of a public function
+-- cites it. Assumes nothing.
 use mathlib.Core.Bool.{false, _&&_, _||_}
 use mathlib.Core.List.{List, [], _∷_}
 use Prim.Native.Nat.{ℕ}

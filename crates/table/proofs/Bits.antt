@@ -6,9 +6,9 @@ use Prim.Native.Nat.{ℕ, zero, suc, _+_, _-_, _*_, _/_, _%_, _^_, _<_, _≤_}
 use native.Mathlib.Nat.{div-self, div-eq-of-lt, mod-eq-of-lt, mul-mod-left, pow-suc}
 use native.Mathlib.Omega.{arith}
 use lib.Bits.{bitXor, xor-zero-r, xor-shr, xor-mod}
-use lib.Dec.{eqb}
+use lib.Dec.{eqb, ltb, lit<}
 use lib.Pow.{pow-pos, pow-lt, pow-mono, pow-add, shl-shr}
-use Rattle.std.proofs.shelf.Tests.{both-ways, cases-lt, cases-order, cases-eq, eqb-true, eq-eqb, ne-eqb}
+use Rattle.std.proofs.shelf.Tests.{both-ways, cases-lt, cases-order, cases-eq, eqb-true, eq-eqb, ne-eqb, lt-ltb, le-ltb}
 use Rattle.std.proofs.shelf.Ways.{decides-below-and}
 use Rattle.table.specs.Kinds.{bit}
 
@@ -55,5 +55,12 @@ all-set a zero = true
 all-set a (suc n) = bit a n && all-set a n
 
 -- the bits of the largest number of 64 bits, by computation
-pub bit-full : (k : ℕ) → k < 64 → bit (2 ^ 64 - 1) k ≡ true
-bit-full = decides-below-and (bit (2 ^ 64 - 1)) (λ k. bit (2 ^ 64 - 1) k ≡ true) (all-set (2 ^ 64 - 1)) (λ k. (λ h. h, λ h. h)) refl (λ n. refl) 64 .0 refl
+full-below : (k : ℕ) → k < 64 → bit (2 ^ 64 - 1) k ≡ true
+full-below = decides-below-and (bit (2 ^ 64 - 1)) (λ k. bit (2 ^ 64 - 1) k ≡ true) (all-set (2 ^ 64 - 1)) (λ k. (λ h. h, λ h. h)) refl (λ n. refl) 64 .0 refl
+
+pub bit-full : (k : ℕ) → bit (2 ^ 64 - 1) k ≡ ltb k 64
+bit-full k =
+    ⊎-elim
+    (λ low. full-below k low ∙ sym (lt-ltb k 64 low))
+    (λ past. bit-past (2 ^ 64 - 1) 64 k (lit< tt) past ∙ sym (le-ltb k 64 past))
+    (cases-lt k 64)

@@ -1,8 +1,8 @@
 // Kinds of word, and sets of them. Kind 0 is the number word; kind 63 is the end mark, which is no word.
 ghost use mathlib.Core.Path.{_≡_};
-ghost use mathlib.Core.Bool.{true, not, _&&_};
-ghost use Prim.Native.Nat.{ℕ, _<_};
-ghost use lib.Dec.{eqb};
+ghost use mathlib.Core.Bool.{not, _&&_};
+ghost use Prim.Native.Nat.{ℕ};
+ghost use lib.Dec.{eqb, ltb};
 ghost use Rattle.table.specs.Kinds.{bit};
 
 // A set of kinds among 0 to 63: bit k stands for kind k.
@@ -29,7 +29,7 @@ impl KindSet {
 
     // The set of all kinds, with the end mark.
     pub fn full() -> KindSet
-        ensures { λ r. ⌜ ((k : ℕ) → k < 64 → bit (r .bits) k ≡ true) ⌝ }
+        ensures { λ r. ⌜ ((k : ℕ) → bit (r .bits) k ≡ ltb k 64) ⌝ }
     {
         KindSet { bits: u64::MAX }
     }

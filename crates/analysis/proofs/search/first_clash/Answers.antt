@@ -6,24 +6,34 @@ use Rattle.analysis.proofs.search.first_clash.Needs as need
 use Rattle.analysis.proofs.search.first_clash.Needs.{then-kind-eq63, else-kind-eq63}
 
 pub loop-kind-again-then-kinds-kind-eq0 : need.loop-kind-again-then-kinds-kind-eq0
-loop-kind-again-then-kinds-kind-eq0 c =
-    (c .loop-kind .inv .0, more-k (c .args .chances .now) (c .args .count) (c .args .classes) (c .search .a) (c .loop-b .b) (c .loop-kind .kind) (c .if-kinds-kind-eq0 .taken) (c .loop-kind .inv .1))
+loop-kind-again-then-kinds-kind-eq0 c = (
+  c .loop-kind .inv .0,
+  more-k _ _ _ (c .search .a) (c .loop-b .b) (c .loop-kind .kind) (c .if-kinds-kind-eq0 .taken) (c .loop-kind .inv .1),
+)
 
 pub loop-word-again : need.loop-word-again
-loop-word-again c =
-    (c .loop-word .inv .0, more-j (c .args .chances .now) (c .args .count) (c .args .classes) (c .search .a) (c .loop-b .b) (c .loop-kind .kind) (c .loop-inherited .inherited) (c .loop-word .word) (c .if-words-word-eq1 .left) (c .loop-word .inv .1))
+loop-word-again c = (
+  c .loop-word .inv .0,
+  more-j _ _ _ (c .search .a) (c .loop-b .b) (c .loop-kind .kind) (c .loop-inherited .inherited) (c .loop-word .word)
+      (c .if-words-word-eq1 .left) (c .loop-word .inv .1),
+)
 
 pub loop-b-again : need.loop-b-again
-loop-b-again c =
-    (c .loop-kind .inv .0, more-b (c .args .chances .now) (c .args .count) (c .args .classes) (c .search .a) (c .loop-b .b) (c .loop-kind .kind) (search needs) (c .loop-kind-test .left) (c .loop-kind .inv .1) (c .loop-b .inv .1))
+loop-b-again c = (
+  c .loop-kind .inv .0,
+  more-b _ _ _ (c .search .a) (c .loop-b .b) (c .loop-kind .kind) (search needs)
+      (c .loop-kind-test .left) (c .loop-kind .inv .1) (c .loop-b .inv .1),
+)
 
 pub search-again : need.search-again
-search-again c =
-    (c .loop-b .inv .0, more-a (c .args .chances .now) (c .args .count) (c .args .classes) (c .search .a) (c .loop-b .b) (c .loop-b-test .left) (c .loop-b .inv .1) (c .search .inv .1))
+search-again c = (
+  c .loop-b .inv .0,
+  more-a _ _ _ (c .search .a) (c .loop-b .b) (c .loop-b-test .left) (c .loop-b .inv .1) (c .search .inv .1),
+)
 
 pub returns-after-search : need.returns-after-search
 returns-after-search c =
-    none-found (c .args .chances .now) (c .args .count) (c .args .classes) _ (c .search .a) (c .search .inv .0) (c .search-test .left) (c .search .inv .1)
+    none-found _ _ _ _ (c .search .a) (c .search .inv .0) (c .search-test .left) (c .search .inv .1)
 
 pub returns-then-words-word-eq1 : need.returns-then-words-word-eq1
 returns-then-words-word-eq1 c = (

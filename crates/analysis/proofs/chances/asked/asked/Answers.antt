@@ -32,4 +32,10 @@ loop-n-again g c =
 pub returns : need.returns
 returns g c n p at =
     c .loop-n .inv .chances n p
-    (omega (arith, at-below at, c .loop-n-test .left, ap length (c .listed-productions .ensures .value), length-map (vec-items (c .args .table .now .draft .productions)) plain)) at
+    (omega (
+      arith,
+      at-below at,
+      c .loop-n-test .left,
+      ap length (c .listed-productions .ensures .value),
+      length-map (vec-items (c .args .table .now .draft .productions)) plain,
+    )) at
