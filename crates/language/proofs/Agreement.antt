@@ -94,5 +94,5 @@ module _ {V : Type 0} (m : Meaning V) (lawful : Lawful m) (guide : Guide) (made 
       offering = λ w. (denied-none ws c w opens, offer-denied ws c w opens (offer m guide limits c w) refl);
     }
 
-pub law : {V : Type 0} (m : Meaning V) → Lawful m → Law m
+pub law : {V : Type 0} (m : Meaning V) → Law m
 law m lawful guide made free limits calls words c is = agrees m lawful guide made free limits words c (subst (Holds m lawful guide made free limits) is (after-holds m lawful guide made free limits calls (new m) Takes.done))

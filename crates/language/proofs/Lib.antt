@@ -2,6 +2,7 @@ pub mod Agreement
 pub mod Chosen
 pub mod Complete
 pub mod Follows
+pub mod Guides
 pub mod Keeps
 pub mod Pairs
 pub mod Reached

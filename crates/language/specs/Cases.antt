@@ -76,7 +76,7 @@ abbrev pub number : ℕ → Word ℕ
 number n = word 0 n
 
 pub record Worked : Type 0 where
-  -- the Predict sets above are right
+  -- the Predict sets that are written for the tables are right
   pub w-made : Made w-guide
   pub q-made : Made q-guide
   pub s-made : Made s-guide

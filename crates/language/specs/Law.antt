@@ -6,7 +6,7 @@ use mathlib.Core.Logic.{_↔_}
 use Prim.Native.Nat.{ℕ, _<_, _≤_}
 use Rattle.std.specs.declared.result.Result.{Result}
 use Rattle.std.specs.declared.result.Result.the-variants.{Ok, Err}
-use Rattle.domain.specs.Meaning.{Meaning}
+use Rattle.domain.specs.Meaning.{Meaning, Lawful}
 use Rattle.table.specs.declared.drafts.Item.the-variants.{Kind}
 use Rattle.table.specs.Grammar.{Production}
 use Rattle.analysis.specs.Clashes.{Clash-free}
@@ -41,9 +41,9 @@ module _ {V : Type 0} (m : Meaning V) (guide : Guide) (limits : Limits) where
     -- the next offer of any word is denied exactly when the words with it added have no open derivation within the limits
     pub offering : (w : Word V) → Denied (offer m guide limits c w) ↔ ¬ ((d : Config V) × Open-derivation m (guide .productions) limits (words ++ w ∷ []) d)
 
--- for every made table that passes, under any limits, after any calls
+-- for every lawful domain and every made table that passes, under any limits, after any calls
 abbrev pub Law : {V : Type 0} → Meaning V → Type 0
-Law {V} m = (guide : Guide) → Made guide → Clash-free (m .classes) (guide .productions)
+Law {V} m = Lawful m → (guide : Guide) → Made guide → Clash-free (m .classes) (guide .productions)
     → (limits : Limits) (calls : List (Call V)) (words : List (Word V)) (c : Config V)
     → after m guide limits (new m) calls ≡ an-open words c
     → Agrees m guide limits words c

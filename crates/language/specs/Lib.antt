@@ -1,6 +1,7 @@
 pub mod Cases
 pub mod Configurations
 pub mod Derivations
+pub mod Guides
 pub mod Law
 pub mod Limits
 pub mod Reader
