@@ -5,7 +5,6 @@ ghost use Prim.Native.Nat.{ℕ, _<_, _≤_};
 ghost use lib.Bits.{bitAnd};
 ghost use lib.ListN.{getD};
 ghost use Rattle.std.specs.Options.{Cases};
-ghost use Rattle.table.specs.Kinds.{bit};
 ghost use Rattle.analysis.specs.Chances.{Common};
 ghost use Rattle.analysis.specs.Searches.{First-common};
 use crate::chances::Chances;

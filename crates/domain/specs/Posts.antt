@@ -4,7 +4,6 @@ use Prim.Native.Nat.{ℕ, _%_, _^_}
 use lib.Bits.{bitAnd, bitOr, bitXor}
 use lib.Dec.{eqb, ltb, lit<}
 use Rattle.std.proofs.shelf.Bits.{mod-below}
-use Rattle.std.specs.declared.option.Option.{Option}
 use Rattle.std.specs.declared.option.Option.the-variants.{Some, None}
 use Rattle.domain.specs.declared.posts.PostSet.{PostSet}
 use Rattle.domain.specs.Choose.{_is_then_else_}

@@ -1,6 +1,5 @@
 // Domains: the values that the symbols of a table carry, and the questions that a reader asks of them.
 ghost use mathlib.Core.Path.{_≡_};
-ghost use Prim.Native.Nat.{ℕ};
 ghost use Rattle.domain.specs.Meaning.{Meaning, Lawful};
 ghost use Rattle.domain.specs.Refusal.{refusal};
 

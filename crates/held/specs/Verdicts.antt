@@ -1,6 +1,6 @@
 -- The lines that tell the verdict on a table, and its sets. Assumes nothing.
 use mathlib.Core.Bool.{Bool, cond}
-use mathlib.Core.List.{List, [], _∷_, _++_}
+use mathlib.Core.List.{List, [], _++_}
 use Prim.Native.Nat.{ℕ, zero, suc}
 use lib.Chars.{codes}
 use lib.Dec.{eqb}

@@ -6,6 +6,7 @@ ghost use Rattle.std.specs.Of.Vec.{vec-items};
 use domain::minutes::Minutes;
 use std::alloc::Global;
 
+// The domain that the program reads with.
 pub fn held_minutes(heap: Global) -> Minutes
     ensures { λ r. ⌜ minutes (r .limit) (vec-items (r .cuts)) ≡ minutes 1440 [] ⌝ }
 {

@@ -39,6 +39,7 @@ fn spelling(heap: Global, kind: u8, letters: &[u8]) -> Result<Spelling, AllocErr
     })
 }
 
+// The draft of the table that the program holds.
 pub fn held_draft(heap: Global) -> Result<Draft, AllocError>
     ensures { λ r. ⌜ made r Held ⌝ }
 {

@@ -8,7 +8,6 @@ use Rattle.std.proofs.shelf.Tests.{and-parts, ltb-true}
 use Rattle.std.proofs.shelf.Ways.{tells}
 use Rattle.std.specs.shelf.Lawful.{all-pass}
 use Rattle.table.specs.declared.drafts.Draft.{Draft}
-use Rattle.table.specs.declared.drafts.Item.the-variants.{Kind}
 use Rattle.table.specs.declared.drafts.Production as filled
 use Rattle.table.specs.declared.faults.TableFault.the-variants.{CountOutside, NoSymbol}
 use Rattle.table.specs.Grammar.{Production, plain}

@@ -3,7 +3,7 @@ use std::alloc::Global;
 use std::error::AnyError;
 
 // The decimal numbers of the line, with single spaces between.
-pub fn numbers(heap: Global, line: &str) -> Result<Vec<u64>, AnyError> {
+pub(crate) fn numbers(heap: Global, line: &str) -> Result<Vec<u64>, AnyError> {
     let mut numbers = Vec::new(heap);
     for digits in line.split(' ') {
         numbers.push(digits.parse::<u64>()?)?;
@@ -18,11 +18,11 @@ pub struct Rest<'a> {
 }
 
 impl<'a> Rest<'a> {
-    pub fn new(numbers: &'a [u64]) -> Rest<'a> {
+    pub(crate) fn new(numbers: &'a [u64]) -> Rest<'a> {
         Rest { numbers }
     }
 
-    pub fn word(&mut self) -> Result<u64, AnyError> {
+    pub(crate) fn word(&mut self) -> Result<u64, AnyError> {
         match self.numbers {
             [] => Err("the line ends too early".into()),
             [number, rest @ ..] => {
@@ -32,16 +32,16 @@ impl<'a> Rest<'a> {
         }
     }
 
-    pub fn short(&mut self) -> Result<u16, AnyError> {
+    pub(crate) fn short(&mut self) -> Result<u16, AnyError> {
         Ok(u16::try_from(self.word()?)?)
     }
 
-    pub fn byte(&mut self) -> Result<u8, AnyError> {
+    pub(crate) fn byte(&mut self) -> Result<u8, AnyError> {
         Ok(u8::try_from(self.word()?)?)
     }
 
     // Nothing may be left.
-    pub fn end(&self) -> Result<(), AnyError> {
+    pub(crate) fn end(&self) -> Result<(), AnyError> {
         if self.numbers.is_empty() {
             Ok(())
         } else {

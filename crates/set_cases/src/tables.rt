@@ -43,7 +43,7 @@ fn read_production(heap: Global, from: &mut Rest<'_>) -> Result<Production, AnyE
     })
 }
 
-pub fn read_draft(heap: Global, from: &mut Rest<'_>) -> Result<Draft, AnyError> {
+pub(crate) fn read_draft(heap: Global, from: &mut Rest<'_>) -> Result<Draft, AnyError> {
     let nonterminals = from.byte()?;
     let kinds = from.byte()?;
     let mut productions = Vec::new(heap);

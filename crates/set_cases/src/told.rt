@@ -66,7 +66,7 @@ fn told_with<D: Domain>(heap: Global, from: &mut Rest<'_>, domain: &D) -> Result
     Ok(told)
 }
 
-pub fn told(heap: Global, line: &str) -> Result<String, AnyError> {
+pub(crate) fn told(heap: Global, line: &str) -> Result<String, AnyError> {
     let numbers = numbers(heap, line)?;
     let mut from = Rest::new(&numbers);
     match from.word()? {

@@ -1,13 +1,11 @@
 // Going round over the productions until the sets no longer grow.
 ghost use mathlib.Core.Path.{_≡_};
 ghost use mathlib.Core.List.{List, _∷_, map};
-ghost use Prim.Native.Nat.{ℕ, _<_};
-ghost use lib.ListN.{length, getD};
-ghost use Rattle.std.specs.Of.Vec.{vec-items};
+ghost use Prim.Native.Nat.{_<_};
 ghost use Rattle.std.specs.shelf.Lists.{All};
 ghost use Rattle.table.specs.declared.drafts.Item.{Item as Member};
 ghost use Rattle.table.specs.Grammar.{plain};
-ghost use Rattle.sets.specs.Bounds.{Small-item, Small-production, Small};
+ghost use Rattle.sets.specs.Bounds.{Small-item, Small};
 ghost use Rattle.sets.specs.Rounds.{beginning, applied, all-applied};
 ghost use Rattle.std.specs.Orderings.{Decides};
 ghost use Rattle.sets.specs.Rules.{Defined, Smallest};

@@ -15,11 +15,9 @@ use Rattle.table.specs.declared.drafts.Spelling.{Spelling}
 use Rattle.text.specs.declared.faults.TextFault.the-variants.{TooLong}
 use Rattle.text.specs.Words.{Seen, words}
 use Rattle.sheet.specs.declared.faults.Denial.{Denial}
-use Rattle.sheet.specs.declared.faults.Fault.{Fault}
 use Rattle.sheet.specs.declared.faults.Fault.the-variants.{Text}
 use Rattle.sheet.specs.declared.kinds.KindsError.{KindsError}
 use Rattle.sheet.specs.declared.kinds.KindsError.the-variants.{Denied, NoMemory}
-use Rattle.sheet.specs.declared.tokens.Token.{Token}
 use Rattle.sheet.specs.Tokens.{token}
 
 -- the kinds of the words one after another, after those that are known; the first word that offers nothing, by its number, denies

@@ -1,6 +1,5 @@
 // The kinds of a sheet's words.
 ghost use mathlib.Core.Path.{_≡_};
-ghost use Rattle.std.specs.Of.Vec.{vec-items};
 ghost use Rattle.std.specs.declared.result.Result.the-variants.{Ok, Err};
 ghost use Rattle.table.specs.Rules.{spellings};
 ghost use Rattle.sheet.specs.declared.kinds.KindsError.the-variants.{NoMemory};

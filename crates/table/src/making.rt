@@ -1,10 +1,9 @@
 // Making tables, and what a made table answers.
 ghost use mathlib.Core.Path.{_≡_};
-ghost use mathlib.Core.Bool.{true};
 ghost use denote.Ref.{now};
 ghost use Rattle.std.specs.Options.{mapped};
 ghost use Rattle.std.specs.declared.option.Option.the-variants.{None};
-ghost use Rattle.table.specs.Rules.{sound, spellings, table-fault};
+ghost use Rattle.table.specs.Rules.{spellings, table-fault};
 ghost use Rattle.table.specs.Spellings.{spelled};
 use crate::drafts::Draft;
 use crate::drafts::Spelling;

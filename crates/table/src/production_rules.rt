@@ -1,7 +1,6 @@
 // The rules of productions.
 ghost use mathlib.Core.Path.{_≡_};
 ghost use mathlib.Core.Bool.{true, false};
-ghost use Prim.Native.Nat.{ℕ};
 ghost use lib.Dec.{leb, ltb};
 ghost use lib.ListN.{length};
 ghost use Rattle.std.specs.shelf.Lawful.{all-pass};
@@ -79,11 +78,11 @@ pub(crate) impl Condition<Production> for SlotsFilled as SlotsFilledCondition {
 }
 
 // Whether each item names only slots below the one that it fills.
-fn names_filled(items: &[Item]) -> bool
-    ensures { λ r. ⌜ r ≡ run-slots-fit 1 (now (items .entry)) ⌝ }
+fn names_filled(run: &[Item]) -> bool
+    ensures { λ r. ⌜ r ≡ run-slots-fit 1 (now (run .entry)) ⌝ }
 {
     let mut slot = 1;
-    for item in items {
+    for item in run {
         if !item_names_below(*item, slot) {
             return false;
         }

@@ -1,11 +1,10 @@
 // The rules of spellings, and how a word is found among them.
 ghost use mathlib.Core.Path.{_≡_};
-ghost use mathlib.Core.Bool.{true, false, not, _&&_};
+ghost use mathlib.Core.Bool.{true, false, _&&_};
 ghost use lib.Dec.{ltb};
 ghost use denote.Ref.{now};
-ghost use Rattle.std.specs.Options.{isSome, mapped};
+ghost use Rattle.std.specs.Options.{mapped};
 ghost use Rattle.std.specs.Text.{within};
-ghost use Rattle.std.specs.shelf.Lawful.{all-pass};
 ghost use Rattle.std.specs.shelf.Text.{sameBytes};
 ghost use Rattle.table.specs.Spellings.{lettered, spelled, distinct, digits-alone};
 use crate::conditions::Condition;

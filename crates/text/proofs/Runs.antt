@@ -8,7 +8,7 @@ use native.Mathlib.Omega.{arith}
 use lib.ListN.{length, take, drop}
 use Rattle.std.proofs.shelf.Lists.{drop-drop}
 use Rattle.table.specs.Spellings.{digits-alone}
-use Rattle.text.specs.Words.{Seen, front, separates, word-at, words-from}
+use Rattle.text.specs.Words.{front, separates, word-at, words-from}
 
 pub front-le : (separating : Bool) (bs : List ℕ) → length (front separating bs) ≤ length bs
 front-le separating [] = omega arith

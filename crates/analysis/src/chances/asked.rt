@@ -1,7 +1,7 @@
 // Asking a domain and the sets of a table once for each production.
 ghost use mathlib.Core.Path.{_≡_};
 ghost use mathlib.Core.Bool.{_&&_};
-ghost use Prim.Native.Nat.{ℕ, _<_, _≤_};
+ghost use Prim.Native.Nat.{ℕ, _≤_};
 ghost use lib.Dec.{ltb};
 ghost use Rattle.table.specs.Grammar.{Production as Plain, grammar};
 ghost use Rattle.table.specs.Kinds.{bit};

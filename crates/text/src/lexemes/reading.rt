@@ -1,14 +1,12 @@
 // From words to lexemes and values.
 ghost use mathlib.Core.Path.{_≡_};
-ghost use mathlib.Core.Bool.{true, false, cond};
-ghost use Prim.Native.Nat.{_≤_};
+ghost use mathlib.Core.Bool.{cond};
 ghost use lib.Dec.{leb};
 ghost use lib.ListN.{length};
 ghost use Rattle.std.specs.Options.{okOr};
 ghost use Rattle.std.specs.declared.result.Result.the-variants.{Ok, Err};
 ghost use Rattle.table.specs.Rules.{spellings};
-ghost use Rattle.table.specs.Spellings.{digits-alone};
-ghost use Rattle.text.specs.Lexemes.{digits-value, lexeme, number-lexeme};
+ghost use Rattle.text.specs.Lexemes.{lexeme, number-lexeme};
 ghost use Rattle.text.specs.Words.{seen};
 use crate::faults::TextFault;
 use crate::faults::ValueFault;
