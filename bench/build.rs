@@ -1,9 +1,10 @@
-//! Says where the Rattle library lies, if it is to be linked.
+//! Says where the Rattle library and what it rests on lie.
 
 fn main() {
-    println!("cargo:rerun-if-env-changed=RATTLE_LIBRARIES");
-    if std::env::var_os("CARGO_FEATURE_RATTLE").is_some() {
-        let folder = std::env::var("RATTLE_LIBRARIES").expect("RATTLE_LIBRARIES is the folder of the static library");
+    for name in ["RATTLE_LIBRARY", "RATTLE_RUNTIME"] {
+        let folder = std::env::var(name).expect("run sets the folders of the libraries");
+        println!("cargo:rerun-if-env-changed={name}");
         println!("cargo:rustc-link-search=native={folder}");
+        println!("cargo:rerun-if-changed={folder}");
     }
 }

@@ -57,12 +57,26 @@ impl Tests for Posts {
     }
 }
 
-/// The first clash of a table, or none: the table passes. Both domains have at most 64 classes.
+/// Test n says yes where two classes add up to n - 1: each test from 1 to 127 says yes somewhere, and no two of them together.
+struct Sums;
+
+impl Tests for Sums {
+    fn classes(&self) -> usize {
+        64
+    }
+
+    fn test(&self, number: u8, i: usize, j: usize) -> bool {
+        number == 0 || i + j + 1 == number as usize
+    }
+}
+
+/// The first clash of a table, or none: the table passes. All domains have at most 64 classes.
 pub fn first_clash(case: &Case) -> Option<Clash> {
     let looks = looks(case);
     match case.domain {
         Domain::Minutes(classes) => search(case, &looks, &Minutes(classes)),
         Domain::Posts(classes) => search(case, &looks, &Posts(classes)),
+        Domain::Sums => search(case, &looks, &Sums),
     }
 }
 

@@ -1,7 +1,7 @@
 //! A case as bytes. Its numbers stand in the order of the decimal form, each in one byte, save for these, high byte
 //! first: LIMIT and every cut have two bytes, SIGHT has eight.
 //!
-//!   domain      1 LIMIT COUNT cut*  or  2 M
+//!   domain      1 LIMIT COUNT cut*  or  2 M  or  3
 //!   counts      N T P
 //!   production  LEFT TEST SIGHT RULE SLOT SLOT COUNT item*
 //!   item        1 KIND  or  2 NONTERMINAL RULE SLOT SLOT  or  3 CHECK SLOT SLOT
@@ -31,9 +31,10 @@ impl Production {
 
 #[derive(Clone, Copy)]
 pub enum Domain {
-    /// The count of classes.
+    // with the count of classes
     Minutes(usize),
     Posts(usize),
+    Sums,
 }
 
 pub struct Case {
@@ -98,6 +99,7 @@ pub fn read(bytes: &[u8]) -> Option<Case> {
             Domain::Minutes(cuts + 1)
         }
         2 => Domain::Posts(1 << bytes.byte()?),
+        3 => Domain::Sums,
         _ => return None,
     };
     let nonterminals = bytes.byte()? as usize;
@@ -120,13 +122,15 @@ pub fn from_decimal(line: &str) -> Option<Vec<u8>> {
         bytes.extend_from_slice(&number.to_be_bytes()[8 - size..]);
         Some(number)
     };
-    if put(1)? == 1 {
-        put(2)?;
-        for _ in 0..put(1)? {
+    match put(1)? {
+        1 => {
             put(2)?;
+            for _ in 0..put(1)? {
+                put(2)?;
+            }
         }
-    } else {
-        put(1)?;
+        2 => drop(put(1)?),
+        _ => {}
     }
     put(1)?;
     put(1)?;

@@ -4,54 +4,48 @@ mod check;
 mod format;
 
 use check::{first_clash, Clash};
+use format::Case;
 use std::hint::black_box;
 use std::io::BufRead;
 use std::time::Instant;
 
-/// The verdict on the bytes of a case as one number: 0 where it passes, 2^40 plus the five numbers of a clash in a byte
-/// each, or 2^41 where the bytes are no case.
-fn verdict(bytes: &[u8]) -> u64 {
-    let Some(case) = format::read(bytes) else { return 1 << 41 };
-    match first_clash(&case) {
+/// What bytes give that are no case.
+const NO_CASE: u64 = 1 << 41;
+
+/// Tests the case so many times, and gives the sum of the verdicts, or `NO_CASE`. A verdict is 0 where the table passes, and 2^40 plus
+/// the five numbers of a clash in a byte each.
+fn sum(bytes: &[u8], runs: u32) -> u64 {
+    let Some(case) = format::read(bytes) else { return NO_CASE };
+    let verdict = |case: &Case| match first_clash(case) {
         None => 0,
         Some(Clash { a, b, k, i, j }) => [1, a, b, k, i, j].iter().fold(0, |sum, &byte| sum << 8 | byte as u64),
-    }
+    };
+    (0..runs).fold(0u64, |sum, _| sum.wrapping_add(verdict(black_box(&case))))
 }
 
-// ---- The Rattle library is linked here. It exports
-//
-//     #[unsafe(no_mangle)] pub extern "C" fn check_case(bytes: &[u8]) -> u64
-//
-// which gives what `verdict` gives. Change the names here if they are others there.
-#[cfg(feature = "rattle")]
 mod rattle {
     #[link(name = "bench_check", kind = "static")]
+    #[link(name = "rattle_c", kind = "static")]
     extern "C" {
-        fn check_case(bytes: *const u8, length: usize) -> u64;
+        fn check_case(bytes: *const u8, length: usize, runs: u32) -> u64;
     }
 
-    pub fn verdict(bytes: &[u8]) -> u64 {
+    /// What the Rattle library gives in place of `sum`.
+    pub fn sum(bytes: &[u8], runs: u32) -> u64 {
         // Sound: the pointer and the length are those of a slice, which the call only reads.
-        unsafe { check_case(bytes.as_ptr(), bytes.len()) }
+        unsafe { check_case(bytes.as_ptr(), bytes.len(), runs) }
     }
 }
-// ---- Up to here.
 
 const FULL: u64 = u64::MAX;
 
-/// The worst table: one nonterminal with 126 productions, each of them predicted at all 63 kinds, under Posts of six with
-/// its 64 classes. Only tests keep them apart. No more than two tests of Posts can do that and say yes somewhere: no
-/// common post and some common post, for two productions. The other productions have tests that Posts does not name, all
-/// different, which say no everywhere.
-fn worst() -> String {
-    let mut line = "2 6 1 63 126".to_string();
+const ROUNDS: u32 = 15;
+
+/// One nonterminal with 126 productions of these tests, each of them predicted at all 63 kinds, under a domain of 64 classes.
+fn wide(domain: &str, tests: impl Iterator<Item = u8>) -> String {
+    let mut line = format!("{domain} 1 63 126");
     let itself = "2 0 0 0 0";
-    for p in 0..126 {
-        let test = match p {
-            0 => 1,
-            1 => 2,
-            _ => p + 2,
-        };
+    for (p, test) in (0..126).zip(tests) {
         // The last production is empty, so that all 63 kinds begin the nonterminal and follow it.
         let items = match p {
             0..=62 => format!("8{}", format!(" {itself} 1 {p}").repeat(4)),
@@ -61,6 +55,16 @@ fn worst() -> String {
         line += &format!(" 0 {test} {FULL} 0 0 0 {items}");
     }
     line
+}
+
+/// The worst table: only tests keep the productions apart, each says yes somewhere, and no two of them together.
+fn worst() -> String {
+    wide("3", 1..)
+}
+
+/// The widest table under Posts, which has two such tests. The others are tests that it does not name, which never say yes.
+fn posts() -> String {
+    wide("2 6", [1, 2].into_iter().chain(4..))
 }
 
 /// A table of ordinary size: order sheets of a depot, under Minutes with the cut 90.
@@ -108,40 +112,32 @@ fn ordinary() -> String {
     line
 }
 
-/// The nanoseconds of one run, the best mean of five rounds.
-fn nanoseconds(runs: u32, bytes: &[u8], verdict: fn(&[u8]) -> u64) -> f64 {
-    let round = || {
+/// The nanoseconds of one test, the best mean of so many rounds. Reading the bytes is not counted.
+fn nanoseconds(runs: u32, bytes: &[u8], sum: fn(&[u8], u32) -> u64) -> f64 {
+    let time = |runs: u32| {
         let start = Instant::now();
-        for _ in 0..runs {
-            black_box(verdict(black_box(bytes)));
-        }
-        start.elapsed().as_nanos() as f64 / runs as f64
+        black_box(sum(black_box(bytes), runs));
+        start.elapsed().as_nanos() as f64
     };
-    (0..5).map(|_| round()).fold(f64::INFINITY, f64::min)
+    let best = |runs: u32| (0..ROUNDS).map(|_| time(runs)).fold(f64::INFINITY, f64::min);
+    (best(runs) - best(0)) / runs as f64
 }
 
-fn times(runs: u32) {
-    for (name, line) in [("worst", worst()), ("ordinary", ordinary())] {
+fn times() {
+    for (name, line, runs) in [("worst", worst(), 200), ("posts", posts(), 2_000), ("ordinary", ordinary(), 20_000)] {
         let bytes = format::from_decimal(&line).expect("a case");
-        assert_eq!(verdict(&bytes), 0, "the {name} table passes");
-        let rust = nanoseconds(runs, &bytes, verdict);
-        println!("{name}: {} bytes, Rust {rust:.0} ns a check", bytes.len());
-        #[cfg(feature = "rattle")]
-        {
-            assert_eq!(rattle::verdict(&bytes), 0, "the {name} table passes in Rattle");
-            let rattle = nanoseconds(runs, &bytes, rattle::verdict);
-            println!("{name}: Rattle {rattle:.0} ns a check, {:.2} times Rust", rattle / rust);
-        }
+        assert_eq!((sum(&bytes, 1), rattle::sum(&bytes, 1)), (0, 0), "the {name} table passes");
+        let (ours, rust) = (nanoseconds(runs, &bytes, rattle::sum), nanoseconds(runs, &bytes, sum));
+        println!("{name}: Rattle {ours:.0} ns, Rust {rust:.0} ns, {:.2} of Rust", ours / rust);
     }
 }
 
-/// Prints the verdict on every case of standard input, given in decimal numbers.
+/// Prints the verdict on every case of standard input, given in decimal numbers, on which both have to agree.
 fn verdicts() {
     for line in std::io::stdin().lock().lines() {
         let bytes = format::from_decimal(&line.expect("text")).expect("a case");
-        let verdict = verdict(&bytes);
-        #[cfg(feature = "rattle")]
-        assert_eq!(verdict, rattle::verdict(&bytes));
+        let verdict = sum(&bytes, 1);
+        assert_eq!(verdict, rattle::sum(&bytes, 1));
         match verdict.to_be_bytes() {
             [_, _, 0, _, _, _, _, _] => println!("passes"),
             [_, _, 1, a, b, k, i, j] => println!("clash {a} {b} {k} {i} {j}"),
@@ -154,10 +150,9 @@ fn main() {
     let arguments: Vec<String> = std::env::args().skip(1).collect();
     match arguments.iter().map(String::as_str).collect::<Vec<_>>()[..] {
         ["verdicts"] => verdicts(),
-        ["tables"] => println!("{}\n{}", worst(), ordinary()),
-        ["times", runs] => times(runs.parse().expect("a count of runs")),
+        ["times"] => times(),
         _ => {
-            eprintln!("usage: bench times RUNS | verdicts | tables");
+            eprintln!("usage: bench verdicts | times");
             std::process::exit(2);
         }
     }

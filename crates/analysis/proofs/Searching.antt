@@ -1,19 +1,20 @@
 -- What the search has passed: no common place at lower numbers. Assumes nothing.
-use mathlib.Core.Path.{_≡_, sym, subst, _∙_}
+use mathlib.Core.Path.{_≡_, sym, subst, ap, _∙_}
 use mathlib.Core.Bool.{true}
 use mathlib.Core.List.{[]}
 use mathlib.Core.Logic.{⊎-elim}
 use Prim.Native.Nat.{ℕ, _+_, _/_, _%_, _^_, _<_, _≤_}
 use native.Mathlib.Omega.{arith}
-use lib.Bits.{bitAnd}
+use lib.Bits.{bitAnd, bitOr}
 use lib.ListN.{getD}
 use Rattle.std.specs.Options.{Cases}
 use Rattle.std.specs.declared.option.Option.{Option}
 use Rattle.std.specs.declared.option.Option.the-variants.{None}
-use Rattle.std.proofs.shelf.Bits.{and-mask, and-le-l}
-use Rattle.std.proofs.shelf.Tests.{cases-lt, eqb-true, eq-eqb}
+use Rattle.std.proofs.shelf.Bits.{and-mask, and-le-l, or-comm}
+use Rattle.std.proofs.shelf.Tests.{cases-lt, eqb-true, eq-eqb, and-parts, and-from, or-left, false≢true}
 use Rattle.table.specs.Kinds.{bit}
 use Rattle.table.proofs.Bits.{bit-within}
+use Rattle.sets.proofs.Bits.{bit-and, bit-or, bit-zero, bits-below}
 use Rattle.analysis.specs.declared.chances.Chances.{Chances}
 use Rattle.analysis.specs.declared.faults.CheckFault.{CheckFault}
 use Rattle.analysis.specs.Chances.{Common}
@@ -31,7 +32,17 @@ bit-found n k ne =
     let mask : bitAnd (n / 2 ^ k) 1 ≡ n / 2 ^ k % 2 = and-mask (n / 2 ^ k) 1 in
     eq-eqb _ 1 (omega (arith, ne))
 
-below-or-at : {X : Type 0} (m n : ℕ) → m < n + 1 → (m < n → X) → (m ≡ n → X) → X
+-- two words that are empty when joined
+pub both-none : (a b : ℕ) → bitOr a b ≡ 0 → (a ≡ 0) × (b ≡ 0)
+both-none a b e = (first a b e, first b a (or-comm b a ∙ e))
+  where
+    first : (x y : ℕ) → bitOr x y ≡ 0 → x ≡ 0
+    first x y none =
+        let small = bits-below 0 x
+        (λ k set. absurd (false≢true (sym (bit-zero k) ∙ ap (λ w. bit w k) (sym none) ∙ bit-or x y k ∙ or-left _ _ set))) in
+        omega arith
+
+pub below-or-at : {X : Type 0} (m n : ℕ) → m < n + 1 → (m < n → X) → (m ≡ n → X) → X
 below-or-at m n h below at = ⊎-elim below (λ l. at (omega arith)) (cases-lt m n)
 
 module _ (w : Chances) (count classes : ℕ) where
@@ -55,6 +66,19 @@ module _ (w : Chances) (count classes : ℕ) where
   more-a a b all none-b none-a a′ b′ k i j h common =
       below-or-at a′ a h (λ l. none-a a′ b′ k i j l common)
       (λ e. none-b b′ k i j (let l = common .within in omega arith) (subst (λ x. Common w count classes x b′ k i j) e common))
+
+  -- a test that never says yes
+  pub skip-a : (a : ℕ) → classes ≤ 64 → ((i : ℕ) → i < 64 → bitAnd (getD (getD (w .rows) a []) i 0) (getD (getD (w .rows) a []) i 0) ≡ 0)
+      → None-a a → None-a (a + 1)
+  skip-a a few never none-a a′ b k i j h common =
+      below-or-at a′ a h (λ l. none-a a′ b k i j l common)
+      (λ e.
+      let at-a = subst (λ x. Common w count classes x b k i j) e common in
+      let one = getD (getD (w .rows) a []) i 0 in
+      let other = getD (getD (w .rows) b []) i 0 in
+      let yes : bit one j ≡ true = and-parts (bit one j) (bit other j) (sym (bit-and one other j) ∙ at-a .answers) .0 in
+      let none = never i (let l = at-a .inherited-class in omega arith) in
+      false≢true (sym (bit-zero j) ∙ ap (λ x. bit x j) (sym none) ∙ bit-and one one j ∙ and-from (bit one j) (bit one j) yes yes))
 
   -- all kinds are below 64
   pub more-b : (a b k : ℕ) → getD (w .kinds) a 0 < 2 ^ 64 → 64 ≤ k → None-k a b k → None-b a b → None-b a (b + 1)

@@ -14,12 +14,11 @@ use crate::faults::CheckFault;
 fn apart(one: &[u64; 64], other: &[u64; 64]) -> bool
     ensures { λ r. ⌜ (r ≡ true → (i : ℕ) → i < 64 → bitAnd (getD (now (one .entry)) i 0) (getD (now (other .entry)) i 0) ≡ 0) ⌝ }
 {
+    let mut common = 0;
     for i in 0..64 {
-        if one[i] & other[i] != 0 {
-            return false;
-        }
+        common |= one[i] & other[i];
     }
-    true
+    common == 0
 }
 
 // The first clash in the order of productions a and b, kind and classes.
@@ -29,11 +28,16 @@ pub(crate) fn first_clash(chances: &Chances, count: u8, classes: u8) -> Option<C
 {
     let mut clash = None;
     'search: for a in 0..count {
+        let one = &chances.rows[a as usize];
+        // a test that never says yes
+        if apart(one, one) {
+            continue;
+        }
         for b in a + 1..count {
             if chances.lefts[a as usize] != chances.lefts[b as usize] {
                 continue;
             }
-            let (one, other) = (&chances.rows[a as usize], &chances.rows[b as usize]);
+            let other = &chances.rows[b as usize];
             let kinds = chances.kinds[a as usize] & chances.kinds[b as usize];
             if kinds == 0 || apart(one, other) {
                 continue;

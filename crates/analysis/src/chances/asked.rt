@@ -27,16 +27,14 @@ fn row<D: Domain>(domain: &D, test: u8, inherited: u16, classes: u8) -> u64
     row
 }
 
-// What the test says at all classes.
-fn answers<D: Domain>(domain: &D, test: u8, classes: u8) -> [u64; 64]
+// Writes down what the test says at all classes.
+fn answer<D: Domain>(domain: &D, test: u8, classes: u8, rows: &mut [u64; 64])
     requires { ⌜ classes ≤ 64 ⌝ ∗ ⌜ classes ≡ meaning (now domain) .classes .count ⌝ }
-    ensures { λ r. ⌜ Answers (meaning (now (domain .entry)) .classes) test r ⌝ }
+    ensures { λ _. ⌜ Answers (meaning (now (domain .entry)) .classes) test (now (rows .exit)) ⌝ }
 {
-    let mut rows = [0; 64];
     for inherited in 0..classes {
         rows[inherited as usize] = row(domain, test, inherited as u16, classes);
     }
-    rows
 }
 
 // What decides for each production of the table.
@@ -46,14 +44,21 @@ pub(crate) fn asked<D: Domain>(table: &Table, domain: &D, classes: u8) -> Chance
 {
     let predicts = PredictWords::of(table);
     let productions = listed(table);
-    let mut lefts = [0; 126];
-    let mut kinds = [0; 126];
-    let mut rows = [[0; 64]; 126];
+    let mut chances = Chances {
+        lefts: [0; 126],
+        kinds: [0; 126],
+        rows: [[0; 64]; 126],
+    };
     for n in 0..productions.len() as u8 {
         let production = &productions[n as usize];
-        lefts[n as usize] = production.left;
-        kinds[n as usize] = predicts.get(n).bits() & production.sight.bits();
-        rows[n as usize] = answers(domain, production.test, classes);
+        chances.lefts[n as usize] = production.left;
+        chances.kinds[n as usize] = predicts.get(n).bits() & production.sight.bits();
+        answer(
+            domain,
+            production.test,
+            classes,
+            &mut chances.rows[n as usize],
+        );
     }
-    Chances { lefts, kinds, rows }
+    chances
 }

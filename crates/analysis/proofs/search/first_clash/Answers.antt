@@ -1,7 +1,7 @@
 use borrow.Author.Needs.{needs}
 use native.Mathlib.Omega.{arith}
 use Rattle.sets.proofs.Bits.{bit-taken}
-use Rattle.analysis.proofs.Searching.{more-a, more-b, more-k, more-j, none-found, bit-found}
+use Rattle.analysis.proofs.Searching.{more-a, skip-a, more-b, more-k, more-j, none-found, bit-found}
 use Rattle.analysis.proofs.search.first_clash.Needs as need
 use Rattle.analysis.proofs.search.first_clash.Needs.{then-kind-eq63, else-kind-eq63}
 
@@ -24,6 +24,10 @@ loop-b-again c = (
   more-b _ _ _ (c .search .a) (c .loop-b .b) (c .loop-kind .kind) (search needs)
       (c .loop-kind-test .left) (c .loop-kind .inv .1) (c .loop-b .inv .1),
 )
+
+pub search-again-then-apart : need.search-again-then-apart
+search-again-then-apart c =
+    (c .search .inv .0, skip-a (c .args .chances .now) (c .args .count) (c .args .classes) (c .search .a) (c .pre .1) (c .apart .ensures (c .if-apart .taken)) (c .search .inv .1))
 
 pub search-again : need.search-again
 search-again c = (

@@ -22,12 +22,12 @@ loop-n-again g c =
     let same = c .listed-productions .ensures .value in
     let is = c .index-productions-n .is ∙ ap (λ ps. getD ps (c .loop-n .n) here) same in
     let within : c .loop-n .n < length all = subst (λ ps. c .loop-n .n < length ps) same (omega (arith, c .loop-n-test .taken)) in
-    asked-more _ _ _ (c .loop-n .n) (omega (arith, c .loop-n-test .taken, c .listed-productions .ensures .few)) _ _ _ (plain here)
+    asked-more _ _ (c .loop-n .chances) (c .loop-n .n) (omega (arith, c .loop-n-test .taken, c .listed-productions .ensures .few)) _ _ _ (plain here)
     (λ p at. at-plain all (c .loop-n .n) here p at is) refl
     (λ k. kinds-both _ (plain here) _ _ k
     (decides-at _ _ (ap (λ x. bit x k) (c .bits .ensures) ∙ c .get .ensures k) (c .of-predicts .ensures .exactly (at-listed all (c .loop-n .n) here within is) k))
     (ap (λ x. bit x k) (c .bits-in-loop-n .ensures)))
-    (c .answers .ensures) (c .loop-n .inv)
+    (c .answer .ensures) (c .loop-n .inv)
 
 pub returns : need.returns
 returns g c n p at =

@@ -4,4 +4,4 @@ use Rattle.analysis.proofs.chances.asked.asked.Given as given
 
 abbrev pub Inv-loop-n : given.InvT-loop-n
 Inv-loop-n g l =
-    Asked (g .D·Domain .meaning (l .domain) .classes) (grammar (l .table .draft)) (record { lefts = l .lefts; kinds = l .kinds; rows = l .rows }) (l .n)
+    Asked (g .D·Domain .meaning (l .domain) .classes) (grammar (l .table .draft)) (l .chances) (l .n)

@@ -4,7 +4,7 @@ use Prim.Native.Nat.{ℕ, _<_}
 use lib.Dec.{ltb}
 use lib.ListN.{getD, length}
 use Rattle.table.specs.Kinds.{bit}
-use Rattle.analysis.proofs.chances.asked.answers.Given as given
+use Rattle.analysis.proofs.chances.asked.answer.Given as given
 
 abbrev pub Inv-loop-inherited : given.InvT-loop-inherited
 Inv-loop-inherited g l =
