@@ -1,4 +1,4 @@
-//! The law of reading, tried on random tables that pass and random lists of calls. After every call it is compared with
+//! The law of reading, tried on random tables that pass and random lists of calls. Before every call it is compared with
 //! all derivations:
 //!
 //! a. closing now closes exactly when the granted words have a derivation within the limits, with its trail and value,
