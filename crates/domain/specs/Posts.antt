@@ -17,8 +17,8 @@ written number = record { bits = number % 64; six = mod-below number 64 (lit< tt
 abbrev pub no-common : ℕ → ℕ → Bool
 no-common first second = eqb (bitAnd first second) 0
 
-abbrev pub within : ℕ → ℕ → Bool
-within first second = eqb (bitAnd first second) first
+abbrev pub lies-within : ℕ → ℕ → Bool
+lies-within first second = eqb (bitAnd first second) first
 
 abbrev pub posts-rule : ℕ → PostSet → PostSet → PostSet
 posts-rule number first second =
@@ -29,7 +29,7 @@ posts-rule number first second =
 abbrev pub posts-check : ℕ → PostSet → PostSet → Bool
 posts-check number first second =
     number is 0 then true else
-    number is 1 then within (first .bits) (second .bits) else
+    number is 1 then lies-within (first .bits) (second .bits) else
     number is 2 then eqb (first .bits) (second .bits) else
     number is 3 then no-common (first .bits) (second .bits) else false
 
