@@ -41,30 +41,48 @@ const FULL: u64 = u64::MAX;
 
 const ROUNDS: u32 = 15;
 
-/// One nonterminal with 126 productions of these tests, each of them predicted at all 63 kinds, under a domain of 64 classes.
-fn wide(domain: &str, tests: impl Iterator<Item = u8>) -> String {
+/// One nonterminal with 126 productions of these tests and sight sets, each of them predicted at all 63 kinds, under a domain of 64
+/// classes.
+fn wide(domain: &str, productions: impl Iterator<Item = (u8, u64)>) -> String {
     let mut line = format!("{domain} 1 63 126");
     let itself = "2 0 0 0 0";
-    for (p, test) in (0..126).zip(tests) {
+    for (p, (test, sight)) in (0..126).zip(productions) {
         // The last production is empty, so that all 63 kinds begin the nonterminal and follow it.
         let items = match p {
             0..=62 => format!("8{}", format!(" {itself} 1 {p}").repeat(4)),
             125 => "0".to_string(),
             _ => format!("8{}", format!(" {itself}").repeat(8)),
         };
-        line += &format!(" 0 {test} {FULL} 0 0 0 {items}");
+        line += &format!(" 0 {test} {sight} 0 0 0 {items}");
     }
     line
 }
 
 /// The worst table: only tests keep the productions apart, each says yes somewhere, and no two of them together.
 fn worst() -> String {
-    wide("3", 1..)
+    wide("3", (1..).map(|test| (test, FULL)))
 }
 
 /// The widest table under Posts, which has two such tests. The others are tests that it does not name, which never say yes.
 fn posts() -> String {
-    wide("2 6", [1, 2].into_iter().chain(4..))
+    wide("2 6", [1, 2].into_iter().chain(4..).map(|test| (test, FULL)))
+}
+
+/// Two halves with the same tests: the productions of a half are kept apart by their tests, and the halves by their sight sets.
+fn halves() -> String {
+    const HALF: u64 = (1 << 31) - 1;
+    wide("3", [HALF, HALF << 31].into_iter().flat_map(|sight| (1..=63).map(move |test| (test, sight))))
+}
+
+/// Nonterminals in a chain, each of which begins with the next and ends with it.
+fn deep() -> String {
+    const LAST: usize = 62;
+    let mut line = format!("1 1440 1 90 {} 63 {}", LAST + 1, 2 * LAST + 2);
+    for n in 0..LAST {
+        let next = format!("2 {} 0 0 0", n + 1);
+        line += &format!(" {n} 0 {FULL} 0 0 0 3 {next} 1 0 {next} {n} 0 {FULL} 0 0 0 1 1 {}", n + 1);
+    }
+    line + &format!(" {LAST} 1 {FULL} 0 0 0 1 1 0 {LAST} 2 {FULL} 0 0 0 2 1 0 1 0")
 }
 
 /// A table of ordinary size: order sheets of a depot, under Minutes with the cut 90.
@@ -123,13 +141,33 @@ fn nanoseconds(runs: u32, bytes: &[u8], sum: fn(&[u8], u32) -> u64) -> f64 {
     (best(runs) - best(0)) / runs as f64
 }
 
+/// The nanoseconds of one test in Rattle and in Rust.
+fn both(runs: u32, line: &str) -> (f64, f64) {
+    let bytes = format::from_decimal(line).expect("a case");
+    (nanoseconds(runs, &bytes, rattle::sum), nanoseconds(runs, &bytes, sum))
+}
+
+fn print(name: &str, (ours, rust): (f64, f64)) {
+    println!("{name}: Rattle {ours:.0} ns, Rust {rust:.0} ns, {:.2} of Rust", ours / rust);
+}
+
+/// Prints the times of the tables above, and the mean of those of standard input, given in decimal numbers.
 fn times() {
-    for (name, line, runs) in [("worst", worst(), 200), ("posts", posts(), 2_000), ("ordinary", ordinary(), 20_000)] {
+    for (name, line, runs) in [
+        ("worst", worst(), 200),
+        ("posts", posts(), 2_000),
+        ("halves", halves(), 200),
+        ("deep", deep(), 2_000),
+        ("ordinary", ordinary(), 20_000),
+    ] {
         let bytes = format::from_decimal(&line).expect("a case");
         assert_eq!((sum(&bytes, 1), rattle::sum(&bytes, 1)), (0, 0), "the {name} table passes");
-        let (ours, rust) = (nanoseconds(runs, &bytes, rattle::sum), nanoseconds(runs, &bytes, sum));
-        println!("{name}: Rattle {ours:.0} ns, Rust {rust:.0} ns, {:.2} of Rust", ours / rust);
+        print(name, both(runs, &line));
     }
+    let lines = std::io::stdin().lock().lines().map(|line| line.expect("text"));
+    let all: Vec<(f64, f64)> = lines.map(|line| both(2_000, &line)).collect();
+    let mean = |of: fn(&(f64, f64)) -> f64| all.iter().map(of).sum::<f64>() / all.len() as f64;
+    print("many", (mean(|both| both.0), mean(|both| both.1)));
 }
 
 /// Prints the verdict on every case of standard input, given in decimal numbers, on which both have to agree.

@@ -1,24 +1,36 @@
--- The rows of a test's answers, and the words of one production after the other. Assumes nothing.
-use mathlib.Core.Path.{_≡_, refl, sym, subst, subst₂, ap, ap₂, _∙_}
+-- The rows of a test's answers, and what is known at the places of tests. Assumes nothing.
+use mathlib.Core.Path.{_≡_, refl, sym, subst, ap, ap₂, _∙_}
 use mathlib.Core.Bool.{Bool, true, false, _&&_, _||_, and-true, or-false}
 use mathlib.Core.List.{List, []}
 use mathlib.Core.Logic.{⊎-elim}
-use Prim.Native.Nat.{ℕ, _+_, _*_, _%_, _^_, _<_}
+use Prim.Native.Nat.{ℕ, _+_, _*_, _%_, _^_, _<_, _≤_}
 use native.Mathlib.Omega.{arith}
-use lib.Bits.{bitAnd, bitOr}
+use lib.Bits.{bitOr}
 use lib.Dec.{eqb, ltb}
-use lib.ListN.{length, set, length-set}
+use lib.ListN.{getD, length, set, replicate, length-set}
 use lib.Seq.{getD-set-same, getD-set-other}
 use Rattle.domain.specs.Meaning.{Classes}
-use Rattle.std.specs.Orderings.{Decides}
-use Rattle.std.proofs.shelf.Tests.{cases-eq, eq-eqb, ne-eqb, lt-ltb, le-ltb, and-parts, and-from}
+use Rattle.std.proofs.shelf.Bits.{one-shl, pow-add}
+use Rattle.std.proofs.shelf.Lists.{getD-replicate}
+use Rattle.std.proofs.shelf.Tests.{cases-eq, eq-eqb, ne-eqb, lt-ltb, le-ltb}
 use Rattle.std.proofs.shelf.Ways.{tells}
-use Rattle.table.specs.Grammar.{Production}
 use Rattle.table.specs.Kinds.{bit}
-use Rattle.sets.specs.Sets.{At, Predict}
-use Rattle.sets.proofs.Bits.{bit-and, bit-or, bit-shl, bit-zero}
-use Rattle.analysis.specs.declared.chances.Chances.{Chances}
-use Rattle.analysis.specs.Chances.{Answers, Chance}
+use Rattle.sets.proofs.Bits.{bit-or, bit-power, bit-zero}
+use Rattle.analysis.specs.declared.said.Said.{Said}
+use Rattle.analysis.specs.declared.said.Said.the-variants.{Unasked}
+use Rattle.analysis.specs.declared.places.Tests.{Tests}
+use Rattle.analysis.specs.Answers.{Rows, Never, Known, All-known, Told}
+use Rattle.analysis.specs.Places.{Placed}
+use Rattle.analysis.proofs.Standing.{below-or-at}
+use Rattle.analysis.proofs.Words.{both-none}
+
+-- the mark of the next class
+pub mark-more : (n mark : ℕ) → (n < 64 → mark ≡ 2 ^ n) → n + 1 < 64 → mark * 2 ^ 1 % 2 ^ 64 ≡ 2 ^ (n + 1)
+mark-more n mark is h =
+    ap (λ m. m * 2 ^ 1 % 2 ^ 64) (is (omega arith)) ∙ ap (λ m. m % 2 ^ 64) (sym (pow-add 2 n 1) ∙ one-mul) ∙ one-shl (n + 1) 64 h
+  where
+    one-mul : 2 ^ (n + 1) ≡ 1 * 2 ^ (n + 1)
+    one-mul = omega arith
 
 module _ (t : ℕ → Bool) where
   pub row-none : (j : ℕ) → bit 0 j ≡ (ltb j 0 && t j)
@@ -39,10 +51,10 @@ module _ (t : ℕ → Bool) where
       other : (n ≡ j → ⊥) → ((ltb j n && t j) || (eqb n j && b)) ≡ (ltb j (n + 1) && t j)
       other h = ap (λ y. (ltb j n && t j) || (y && b)) (ne-eqb n j h) ∙ or-false (ltb j n && t j) ∙ ap (λ x. x && t j) (further h)
 
-  pub row-then : (row n : ℕ) → n < 64 → t n ≡ true → ((j : ℕ) → bit row j ≡ (ltb j n && t j))
-      → (j : ℕ) → bit (bitOr row (1 * 2 ^ n % 2 ^ 64)) j ≡ (ltb j (n + 1) && t j)
-  row-then row n few says inv j =
-      bit-or row _ j ∙ ap (λ x. bit row j || x) (bit-shl n j few ∙ sym (and-true (eqb n j))) ∙ row-more n (bit row j) true j says (inv j)
+  pub row-then : (row n mark : ℕ) → mark ≡ 2 ^ n → t n ≡ true → ((j : ℕ) → bit row j ≡ (ltb j n && t j))
+      → (j : ℕ) → bit (bitOr row mark) j ≡ (ltb j (n + 1) && t j)
+  row-then row n mark is says inv j =
+      bit-or row mark j ∙ ap (λ x. bit row j || x) (ap (λ m. bit m j) is ∙ bit-power n j ∙ sym (and-true (eqb n j))) ∙ row-more n (bit row j) true j says (inv j)
 
   pub row-else : (row n : ℕ) → t n ≡ false → ((j : ℕ) → bit row j ≡ (ltb j n && t j)) → (j : ℕ) → bit row j ≡ (ltb j (n + 1) && t j)
   row-else row n says inv j = nothing (bit row j) (eqb n j) ∙ row-more n (bit row j) false j says (inv j)
@@ -52,62 +64,84 @@ module _ (t : ℕ → Bool) where
       nothing false true = refl
       nothing false false = refl
 
--- the words speak of the productions below n
-pub record Asked (c : Classes) (g : List Production) (w : Chances) (n : ℕ) : Type 0 where
-  pub lefts-long : length (w .lefts) ≡ 126
-  pub kinds-long : length (w .kinds) ≡ 126
-  pub rows-long : length (w .rows) ≡ 126
-  pub chances : (m : ℕ) (p : Production) → m < n → At g m p → Chance c g w m p
+module _ (t : ℕ → ℕ → Bool) (classes : ℕ) where
+  -- the rows below n are the test's answers, and `all` is 0 only if they are
+  pub record Asking (rows : List ℕ) (all n : ℕ) : Type 0 where
+    pub long : length rows ≡ 64
+    pub told : (i j : ℕ) → i < n → bit (getD rows i 0) j ≡ (ltb j classes && t i j)
+    pub none : all ≡ 0 → (i : ℕ) → i < n → getD rows i 0 ≡ 0
 
-pub asked-none : (c : Classes) (g : List Production) (w : Chances) → length (w .lefts) ≡ 126 → length (w .kinds) ≡ 126 → length (w .rows) ≡ 126
-    → Asked c g w 0
-asked-none c g w lefts kinds rows = record {
-  lefts-long = lefts;
-  kinds-long = kinds;
-  rows-long = rows;
-  chances = λ m p h at. let no : ⊥ = omega arith in absurd no;
-}
-
--- the kinds that two words have in common
-pub kinds-both : (g : List Production) (p : Production) (predict sight k : ℕ) → Decides (bit predict k) (Predict g p k) → bit sight k ≡ p .sight k
-    → Decides (bit (bitAnd predict sight) k) (Predict g p k × (p .sight k ≡ true))
-kinds-both g p predict sight k d e = (
-  λ h. let both = and-parts (bit predict k) (bit sight k) (sym (bit-and predict sight k) ∙ h) in (d .0 (both .0), sym e ∙ both .1),
-  λ h. bit-and predict sight k ∙ and-from _ _ (d .1 (h .0)) (e ∙ h .1),
-)
-
--- the words with those of production n put in
-abbrev pub placed : Chances → ℕ → ℕ → ℕ → List ℕ → Chances
-placed w n left kinds rows = record { lefts = set (w .lefts) n left; kinds = set (w .kinds) n kinds; rows = set (w .rows) n rows }
-
-module _ (c : Classes) (g : List Production) (w : Chances) (n : ℕ) (few : n < 126) (left kinds : ℕ) (rows : List ℕ) where
-  chance-here : (q : Production) → left ≡ q .left → ((k : ℕ) → Decides (bit kinds k) (Predict g q k × (q .sight k ≡ true)))
-      → Answers c (q .test) rows → Asked c g w n → Chance c g (placed w n left kinds rows) n q
-  chance-here q left-is kinds-are rows-are a = record {
-    left = getD-set-same (w .lefts) n left 0 (omega (arith, a .lefts-long)) ∙ left-is;
-    kinds = λ k.
-        subst (λ x. Decides (bit x k) (Predict g q k × (q .sight k ≡ true)))
-        (sym (getD-set-same (w .kinds) n kinds 0 (omega (arith, a .kinds-long)))) (kinds-are k);
-    rows = subst (Answers c (q .test)) (sym (getD-set-same (w .rows) n rows [] (omega (arith, a .rows-long)))) rows-are;
+  pub asking-none : (rows : List ℕ) (all : ℕ) → length rows ≡ 64 → Asking rows all 0
+  asking-none rows all long = record {
+    long = long;
+    told = λ i j h. let no : ⊥ = omega arith in absurd no;
+    none = λ e i h. let no : ⊥ = omega arith in absurd no;
   }
 
-  chance-kept : (m : ℕ) (p : Production) → (m ≡ n → ⊥) → Chance c g w m p → Chance c g (placed w n left kinds rows) m p
-  chance-kept m p ne was = record {
-    left = getD-set-other (w .lefts) n m left 0 ne ∙ was .left;
-    kinds = λ k.
-        subst (λ x. Decides (bit x k) (Predict g p k × (p .sight k ≡ true))) (sym (getD-set-other (w .kinds) n m kinds 0 ne)) (was .kinds k);
-    rows = subst (Answers c (p .test)) (sym (getD-set-other (w .rows) n m rows [] ne)) (was .rows);
+  pub asking-more : (rows : List ℕ) (all n row : ℕ) → n < 64 → ((j : ℕ) → bit row j ≡ (ltb j classes && t n j)) → Asking rows all n
+      → Asking (set rows n row) (bitOr all row) (n + 1)
+  asking-more rows all n row few says s = record {
+    long = length-set rows n row ∙ s .long;
+    told = λ i j h. below-or-at i n h
+        (λ l. ap (λ w. bit w j) (other i l) ∙ s .told i j l)
+        (λ e. ap (λ m. bit (getD (set rows n row) m 0) j) e ∙ ap (λ w. bit w j) same ∙ says j ∙ ap (λ m. ltb j classes && t m j) (sym e));
+    none = λ e i h.
+        let parts = both-none all row e in
+        below-or-at i n h (λ l. other i l ∙ s .none (parts .0) i l) (λ at. ap (λ m. getD (set rows n row) m 0) at ∙ same ∙ parts .1);
   }
+    where
+      other : (i : ℕ) → i < n → getD (set rows n row) i 0 ≡ getD rows i 0
+      other i l = getD-set-other rows n i row 0 (λ e. omega arith)
 
-  pub asked-more : (q : Production) → ((p : Production) → At g n p → p ≡ q) → left ≡ q .left
-      → ((k : ℕ) → Decides (bit kinds k) (Predict g q k × (q .sight k ≡ true))) → Answers c (q .test) rows → Asked c g w n
-      → Asked c g (placed w n left kinds rows) (n + 1)
-  asked-more q same left-is kinds-are rows-are a = record {
-    lefts-long = length-set (w .lefts) n left ∙ a .lefts-long;
-    kinds-long = length-set (w .kinds) n kinds ∙ a .kinds-long;
-    rows-long = length-set (w .rows) n rows ∙ a .rows-long;
-    chances = λ m p h at. ⊎-elim
-        (λ e. subst₂ (Chance c g (placed w n left kinds rows)) (sym e) (sym (same p (subst (λ i. At g i p) e at)))
-        (chance-here q left-is kinds-are rows-are a))
-        (λ ne. chance-kept m p ne (a .chances m p (omega (arith, ne)) at)) (cases-eq m n);
-  }
+      same : getD (set rows n row) n 0 ≡ row
+      same = getD-set-same rows n row 0 (omega (arith, s .long))
+
+module _ (c : Classes) (test : ℕ) (rows : List ℕ) (all n : ℕ) (upto : c .count ≤ n) (s : Asking (c .test test) (c .count) rows all n) where
+  pub asking-all : Rows c test rows
+  asking-all i j hi hj = s .told i j (omega arith) ∙ ap (λ b. b && c .test test i j) (lt-ltb j (c .count) hj)
+
+  pub asking-never : all ≡ 0 → Never c test
+  asking-never none i j hi hj = sym (asking-all i j hi hj) ∙ ap (λ w. bit w j) (s .none none i (omega arith)) ∙ bit-zero j
+
+module _ (c : Classes) (t : Tests) (test : ℕ) (placed : Placed t test) where
+  -- the place of the test
+  abbrev place : ℕ
+  place = getD (t .places) test 0
+
+  pub known-here : (said : List Said) (rows : List (List ℕ)) → All-known c t said rows → Known c test (getD said place Unasked) (getD rows place [])
+  known-here said rows all = subst (λ m. Known c m (getD said place Unasked) (getD rows place [])) (placed .stands) (all place (placed .within))
+
+  module _ (rows : List (List ℕ)) (r : List ℕ) (room : t .count ≤ length rows) where
+    row-here : getD (set rows place r) place [] ≡ r
+    row-here = getD-set-same rows place r [] (omega (arith, placed .within))
+
+    pub told-here : Rows c test r → Told c t (set rows place r) test
+    told-here told = subst (Rows c test) (sym row-here) told
+
+    -- another test has another place
+    pub told-kept : Rows c test r → (other : ℕ) → Placed t other → Told c t rows other → Told c t (set rows place r) other
+    told-kept told other stands was =
+        ⊎-elim
+        (λ e.
+        let same : test ≡ other = sym (placed .stands) ∙ ap (λ m. getD (t .numbers) m 0) (sym e) ∙ stands .stands in
+        subst (λ m. Rows c m (getD (set rows place r) (getD (t .places) m 0) [])) same (told-here told))
+        (λ ne. subst (Rows c other) (sym (getD-set-other rows place (getD (t .places) other 0) r [] ne)) was)
+        (cases-eq (getD (t .places) other 0) place)
+
+    pub known-set : (said : List Said) (s : Said) → t .count ≤ length said → Known c test s r → All-known c t said rows
+        → All-known c t (set said place s) (set rows place r)
+    known-set said s few known all n h =
+        ⊎-elim
+        (λ e.
+        subst (λ m. Known c (getD (t .numbers) m 0) (getD (set said place s) m Unasked) (getD (set rows place r) m [])) (sym e)
+        (subst (λ m. Known c m (getD (set said place s) place Unasked) (getD (set rows place r) place [])) (sym (placed .stands))
+        (subst (λ x. Known c test x (getD (set rows place r) place [])) (sym (getD-set-same said place s Unasked (omega (arith, placed .within))))
+        (subst (Known c test s) (sym row-here) known))))
+        (λ ne.
+        subst (λ x. Known c (getD (t .numbers) n 0) x (getD (set rows place r) n [])) (sym (getD-set-other said place n s Unasked ne))
+        (subst (Known c (getD (t .numbers) n 0) (getD said n Unasked)) (sym (getD-set-other rows place n r [] ne)) (all n h)))
+        (cases-eq n place)
+
+pub none-known : (c : Classes) (t : Tests) (rows : List (List ℕ)) → t .count ≤ 126 → All-known c t (replicate 126 Unasked) rows
+none-known c t rows few n h =
+    subst (λ s. Known c (getD (t .numbers) n 0) s (getD rows n [])) (sym (getD-replicate 126 n Unasked Unasked (omega arith))) tt

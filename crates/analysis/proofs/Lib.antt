@@ -1,3 +1,6 @@
 mod Asking
-mod Matching
+mod Contesting
+mod Placing
 mod Searching
+mod Standing
+mod Words

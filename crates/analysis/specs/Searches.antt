@@ -1,13 +1,14 @@
 -- What the search for the first clash finds. No contract of a public function
 -- cites it. Assumes nothing.
-use Prim.Native.Nat.{ℕ}
-use Rattle.analysis.specs.declared.chances.Chances.{Chances}
+use mathlib.Core.List.{List}
+use Rattle.domain.specs.Meaning.{Classes}
+use Rattle.table.specs.Grammar.{Production}
 use Rattle.analysis.specs.declared.faults.CheckFault.{CheckFault}
 use Rattle.analysis.specs.declared.faults.CheckFault.the-variants.{ManyClasses, TwoClash}
-use Rattle.analysis.specs.Chances.{Common}
+use Rattle.analysis.specs.Clashes.{Clash}
 use Rattle.analysis.specs.Verdict.{None-before}
 
--- the fault is the first of the words' common places
-abbrev pub First-common : Chances → ℕ → ℕ → CheckFault → Type 0
-First-common w count classes (ManyClasses n) = ⊥
-First-common w count classes (TwoClash a b k i j) = Common w count classes a b k i j × None-before (Common w count classes) a b k i j
+-- the fault is the first clash
+abbrev pub First-clash : Classes → List Production → CheckFault → Type 0
+First-clash c g (ManyClasses n) = ⊥
+First-clash c g (TwoClash a b k i j) = Clash c g a b k i j × None-before (Clash c g) a b k i j

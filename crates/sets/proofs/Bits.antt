@@ -46,9 +46,6 @@ bit-shl j k h = ap (λ n. bit n k) (one-shl j 64 h) ∙ bit-power j k
 pub bit-taken : (n k : ℕ) → bitAnd (n / 2 ^ k) 1 ≡ 1 → bit n k ≡ true
 bit-taken n k e = eq-eqb _ 1 (sym (and-mask (n / 2 ^ k) 1) ∙ e)
 
-pub bit-left : (n k : ℕ) → (bitAnd (n / 2 ^ k) 1 ≡ 1 → ⊥) → bit n k ≡ false
-bit-left n k e = ne-eqb _ 1 (λ h. e (and-mask (n / 2 ^ k) 1 ∙ h))
-
 bit-half : (n k : ℕ) → bit (n / 2) k ≡ bit n (suc k)
 bit-half n k =
     let e : 1 + k ≡ suc k = omega arith in

@@ -1,77 +1,89 @@
--- Words that grow in each round, and not beyond 64 bits. Assumes nothing.
-use mathlib.Core.Path.{_≡_, refl, ap₂}
-use mathlib.Core.List.{List, [], _∷_}
-use Prim.Native.Nat.{ℕ, suc, _+_, _*_, _-_, _^_, _<_, _≤_}
-use native.Mathlib.Nat.{mul-suc}
+-- Words that grow, and not beyond 64 bits. Assumes nothing.
+use mathlib.Core.Path.{_≡_, refl, sym, subst, ap, _∙_}
+use mathlib.Core.Bool.{Bool, true, false, _||_}
+use mathlib.Core.List.{List}
+use Prim.Native.Nat.{ℕ, _+_, _*_, _-_, _^_, _<_, _≤_}
 use native.Mathlib.Omega.{arith}
-use lib.ListN.{length, getD}
+use lib.Bits.{bitOr, and-le-r, or-add-and}
+use lib.ListN.{length, getD, set}
+use lib.Seq.{set-getD}
+use Rattle.std.specs.shelf.Lists.{sum}
+use Rattle.std.proofs.shelf.Elements.{all-from-getD}
+use Rattle.std.proofs.shelf.Sums.{sumBy-le, sumBy-set}
+use Rattle.std.proofs.shelf.Tests.{true≢false, or-parts}
+use Rattle.table.specs.Grammar.{Production}
 use Rattle.sets.specs.declared.words.SetWords.{SetWords}
-use Rattle.sets.specs.Rules.{Within}
+use Rattle.sets.specs.Bounds.{Small, Small-production}
+use Rattle.sets.specs.Rounds.{Grown, Sound, weight}
 use Rattle.sets.specs.Words.{held}
-use Rattle.sets.proofs.Bits.{bits-le}
+use Rattle.sets.proofs.Bits.{bits-below}
+use Rattle.sets.proofs.Limits.{all-at, first-below, follow-below}
 
-total : List ℕ → ℕ
-total [] = 0
-total (x ∷ xs) = x + total xs
+pub joined-above : (x more : ℕ) → x ≤ bitOr x more
+joined-above x more = let sums = or-add-and x more in let low = and-le-r x more in omega arith
 
-total-le : (xs ys : List ℕ) → length xs ≡ length ys → ((i : ℕ) → getD xs i 0 ≤ getD ys i 0) → total xs ≤ total ys
-unfolding total
-total-le [] [] l h = omega arith
-total-le [] (y ∷ ys) l h = omega arith
-total-le (x ∷ xs) [] l h = omega (arith, l)
-total-le (x ∷ xs) (y ∷ ys) l h =
-    let here : x ≤ y = h 0 in let rest = total-le xs ys (omega (arith, l)) (λ i. h (suc i)) in omega arith
+-- a word of the list with more joined to it
+module _ (ws : List ℕ) (i more : ℕ) (h : i < length ws) where
+  pub sum-above : sum ws ≤ sum (set ws i (bitOr (getD ws i 0) more))
+  sum-above = let e = sumBy-set (λ x. x) ws i (bitOr (getD ws i 0) more) 0 h in let a = joined-above (getD ws i 0) more in omega arith
 
-total-same : (xs ys : List ℕ) → length xs ≡ length ys → ((i : ℕ) → getD xs i 0 ≤ getD ys i 0) → total ys ≤ total xs → xs ≡ ys
-unfolding total
-total-same [] [] l h t = refl
-total-same [] (y ∷ ys) l h t = let no : ⊥ = omega (arith, l) in absurd no
-total-same (x ∷ xs) [] l h t = let no : ⊥ = omega (arith, l) in absurd no
-total-same (x ∷ xs) (y ∷ ys) l h t =
-    let here : x ≤ y = h 0 in
-    let long : length xs ≡ length ys = omega (arith, l) in
-    let rest = total-le xs ys long (λ i. h (suc i)) in
-    let same : x ≡ y = omega arith in
-    let more : total ys ≤ total xs = omega arith in
-    ap₂ _∷_ same (total-same xs ys long (λ i. h (suc i)) more)
+  pub sum-grows : (bitOr (getD ws i 0) more ≡ getD ws i 0 → ⊥) → sum ws < sum (set ws i (bitOr (getD ws i 0) more))
+  sum-grows differ =
+      let e = sumBy-set (λ x. x) ws i (bitOr (getD ws i 0) more) 0 h in let a = joined-above (getD ws i 0) more in
+      let b : getD ws i 0 < bitOr (getD ws i 0) more = omega arith in omega arith
 
-total-below : (m : ℕ) (xs : List ℕ) → ((i : ℕ) → getD xs i 0 ≤ m) → total xs ≤ m * length xs
-unfolding total
-total-below m [] h = omega arith
-total-below m (x ∷ xs) h = let here : x ≤ m = h 0 in let rest = total-below m xs (λ i. h (suc i)) in omega (arith, mul-suc m (length xs))
+  pub set-same : bitOr (getD ws i 0) more ≡ getD ws i 0 → set ws i (bitOr (getD ws i 0) more) ≡ ws
+  set-same same = ap (set ws i) same ∙ set-getD ws i 0
 
-pub weight : SetWords → ℕ
-weight w = w .empty + total (w .first) + total (w .follow)
+module _ (v : SetWords) (left more empty : ℕ) (h : left < length (v .first)) (above : v .empty ≤ empty) where
+  abbrev pub first-joined : SetWords
+  first-joined = record { empty = empty; first = set (v .first) left (bitOr (getD (v .first) left 0) more); follow = v .follow }
 
--- the words of v are words of 64 bits, and w has all that they have
-module _ (v w : SetWords) (lens : (length (v .first) ≡ length (w .first)) × (length (v .follow) ≡ length (w .follow)))
-    (empty-fits : v .empty < 2 ^ 64) (first-fits : (a : ℕ) → getD (v .first) a 0 < 2 ^ 64) (follow-fits : (a : ℕ) → getD (v .follow) a 0 < 2 ^ 64)
-    (within : Within (held v) (held w)) where
-  empty-grows : v .empty ≤ w .empty
-  empty-grows = bits-le 64 _ _ empty-fits (within .empty)
+  pub grows-by-first : (bitOr (getD (v .first) left 0) more ≡ getD (v .first) left 0 → ⊥) → weight v < weight first-joined
+  grows-by-first differ = let a = sum-grows (v .first) left more h differ in omega arith
 
-  first-grows : (a : ℕ) → getD (v .first) a 0 ≤ getD (w .first) a 0
-  first-grows a = bits-le 64 _ _ (first-fits a) (within .first a)
+  pub grows-by-empty : (empty ≡ v .empty → ⊥) → weight v < weight first-joined
+  grows-by-empty differ = let a = sum-above (v .first) left more h in let b : v .empty < empty = omega arith in omega arith
 
-  follow-grows : (a : ℕ) → getD (v .follow) a 0 ≤ getD (w .follow) a 0
-  follow-grows a = bits-le 64 _ _ (follow-fits a) (within .follow a)
+  pub same-first : bitOr (getD (v .first) left 0) more ≡ getD (v .first) left 0 → empty ≡ v .empty → first-joined ≡ v
+  same-first first e = let f = set-same (v .first) left more h first in λ i. record { empty = e i; first = f i; follow = v .follow }
 
-  pub same-weight : weight w ≤ weight v → v ≡ w
-  unfolding weight
-  same-weight h =
-      let e = empty-grows in
-      let f = total-le (v .first) (w .first) (lens .0) first-grows in
-      let l = total-le (v .follow) (w .follow) (lens .1) follow-grows in
-      let empty : v .empty ≡ w .empty = omega arith in
-      let first = total-same (v .first) (w .first) (lens .0) first-grows (omega arith) in
-      let follow = total-same (v .follow) (w .follow) (lens .1) follow-grows (omega arith) in
-      λ i. record { empty = empty i; first = first i; follow = follow i }
+-- what grew before or grows now has grown
+pub grown-then : (r q : Bool) (u v w : SetWords) → Grown r u v → Grown q v w → Grown (r || q) u w
+grown-then r q u v w before now = record {
+  firsts = now .firsts ∙ before .firsts;
+  follows = now .follows ∙ before .follows;
+  same = λ e. let (before-same, now-same) = or-parts r q e in now .same now-same ∙ before .same before-same;
+  more = λ e. more r q (before .same) (before .more) (now .same) (now .more) e;
+}
+  where
+    more : (r q : Bool) → (r ≡ false → v ≡ u) → (r ≡ true → weight u < weight v) → (q ≡ false → w ≡ v) → (q ≡ true → weight v < weight w)
+        → (r || q) ≡ true → weight u < weight w
+    more true true s m t n e = let a = m refl in let b = n refl in omega arith
+    more true false s m t n e = let a = m refl in let b = ap weight (t refl) in omega arith
+    more false true s m t n e = let a = ap weight (s refl) in let b = n refl in omega arith
+    more false false s m t n e = absurd (true≢false (sym e))
 
--- no more than 129 words of 64 bits
-pub weight-below : (w : SetWords) → length (w .first) ≡ 64 → length (w .follow) ≡ 64 → w .empty < 2 ^ 64
-    → ((a : ℕ) → getD (w .first) a 0 < 2 ^ 64) → ((a : ℕ) → getD (w .follow) a 0 < 2 ^ 64) → weight w < 129 * 2 ^ 64
-unfolding weight
-weight-below w l m e f g =
-    let first = total-below (2 ^ 64 - 1) (w .first) (λ i. let h = f i in omega arith) in
-    let follow = total-below (2 ^ 64 - 1) (w .follow) (λ i. let h = g i in omega arith) in
+pub grown-none : (w : SetWords) → Grown false w w
+grown-none w = record { firsts = refl; follows = refl; same = λ e. refl; more = λ e. absurd (true≢false (sym e)) }
+
+-- what the words have room for yet
+pub room : SetWords → ℕ
+room w = (1 + length (w .first) + length (w .follow)) * 2 ^ 64 - weight w
+
+sum-below : (ws : List ℕ) → ((a : ℕ) → getD ws a 0 < 2 ^ 64) → sum ws ≤ length ws * (2 ^ 64 - 1)
+sum-below ws fits =
+    sumBy-le (λ x. x) (2 ^ 64 - 1) ws (all-from-getD (λ x. x ≤ 2 ^ 64 - 1) ws 0 (λ i h. let f = fits i in omega arith))
+
+-- sets that hold only what the rules define have words of 64 bits, so that they cannot grow for ever
+pub grows : (g : List Production) (v w : SetWords) → Small g → Sound g (held v) → Grown true v w → room w < room v
+unfolding room
+grows g v w small sound growth =
+    let empty = bits-below 64 (v .empty) (λ a h. let c = sound .empty a h in subst (λ b. b < 64) (c .left) (all-at Small-production (c .stands) small .0)) in
+    let first = sum-below (v .first)
+    (λ a. bits-below 64 _ (λ k h. let c = sound .first a k h in first-below g small (c .items) (all-at Small-production (c .stands) small .1))) in
+    let follow = sum-below (v .follow) (λ a. bits-below 64 _ (λ k h. follow-below g small (sound .follow a k h))) in
+    let more = growth .more refl in
+    let firsts = growth .firsts in
+    let follows = growth .follows in
     omega arith

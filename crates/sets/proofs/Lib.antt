@@ -1,10 +1,12 @@
 mod Adding
 pub mod Bits
 pub mod Fitting
-mod Going
+mod Following
 mod Growing
+mod Keeping
 pub mod Limits
 pub mod Predicting
-mod Runs
+mod Rounds
 mod Settling
 pub mod Smallest
+mod Walks

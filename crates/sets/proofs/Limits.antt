@@ -1,10 +1,14 @@
 -- The kinds in the sets are below 64. Assumes nothing.
-use mathlib.Core.List.{List}
-use Prim.Native.Nat.{ℕ, _<_}
+use mathlib.Core.Path.{_≡_, sym, subst}
+use mathlib.Core.List.{List, [], _∷_, map}
+use Prim.Native.Nat.{ℕ, zero, suc, _<_}
+use native.Mathlib.Omega.{arith}
 use lib.Dec.{lit<}
+use lib.ListN.{getD, length}
 use Rattle.std.specs.shelf.Lists.{All}
 use Rattle.table.specs.declared.drafts.Item.{Item}
-use Rattle.table.specs.Grammar.{Production}
+use Rattle.table.specs.declared.drafts.Production as filled
+use Rattle.table.specs.Grammar.{Production, plain}
 use Rattle.sets.specs.Bounds.{Small-item, Small-production, Small}
 use Rattle.sets.specs.Sets.{At, Stands, First, Follow}
 
@@ -27,3 +31,8 @@ module _ (g : List Production) (small : Small g) where
   follow-below Follow.at-end = lit< tt
   follow-below (Follow.before at s f) = first-below f (after-small s (all-at Small-production at small .1))
   follow-below (Follow.last at s e f) = follow-below f
+
+pub small-at : (ps : List filled.Production) (i : ℕ) (p : filled.Production) → i < length ps → p ≡ getD ps i p → Small (map plain ps) → Small-production (plain p)
+small-at [] i p h e small = let no : ⊥ = omega arith in absurd no
+small-at (q ∷ qs) zero p h e small = subst (λ r. Small-production (plain r)) (sym e) (small .0)
+small-at (q ∷ qs) (suc i) p h e small = small-at qs i p (omega arith) e (small .1)

@@ -1,9 +1,11 @@
 -- The Predict sets, from the sets of the table. Assumes nothing.
-use mathlib.Core.Path.{_≡_, sym, subst, ap, _∙_}
+use mathlib.Core.Path.{_≡_, sym, subst, ap, ap₂, _∙_}
+use mathlib.Core.Bool.{true, _&&_, _||_}
 use mathlib.Core.List.{List, [], _∷_, map}
 use mathlib.Core.Logic.{⊎-elim, inl, inr}
 use Prim.Native.Nat.{ℕ, zero, suc, _+_, _<_, _≤_}
 use native.Mathlib.Omega.{arith}
+use lib.Bits.{bitOr}
 use lib.ListN.{getD, length, set, length-set}
 use lib.Seq.{getD-set-same, getD-set-other}
 use Rattle.std.specs.Orderings.{Decides}
@@ -12,10 +14,13 @@ use Rattle.std.proofs.shelf.Ways.{decides-at}
 use Rattle.table.specs.declared.drafts.Production as filled
 use Rattle.table.specs.Grammar.{Production, plain}
 use Rattle.table.specs.Kinds.{bit}
+use Rattle.sets.specs.declared.words.Run.{Run}
+use Rattle.sets.specs.Rounds.{Sound}
 use Rattle.sets.specs.Rules.{Family, Defined, Meets, run-predict}
 use Rattle.sets.specs.Sets.{At, Predict}
-use Rattle.sets.specs.Words.{Predicted}
-use Rattle.sets.proofs.Smallest.{Sound, empty-in, first-in, follow-in, empty-out, first-out}
+use Rattle.sets.specs.Words.{Predicted, Tells}
+use Rattle.sets.proofs.Bits.{bit-or}
+use Rattle.sets.proofs.Smallest.{empty-in, first-in, follow-in, empty-out, first-out}
 
 pub predicted : (g : List Production) (s : Family) → Defined g s → Meets g s → (p : Production) (k : ℕ)
     → Decides (run-predict s p k) (Predict g p k)
@@ -29,6 +34,12 @@ predicted g s d m p k = (
     sound : Sound g s
     sound = record { empty = λ a. d .empty a .0; first = λ a k. d .first a k .0; follow = λ a k. d .follow a k .0 }
 
+-- items that can all be empty are followed by what can follow the left side
+pub predicts-empty : (s : Family) (p : Production) (run : Run) (behind : ℕ) → Tells s (p .items) run → ((k : ℕ) → bit behind k ≡ s .follow (p .left) k)
+    → run .empty ≡ true → (k : ℕ) → bit (bitOr (run .kinds) behind) k ≡ run-predict s p k
+predicts-empty s p run behind t same e k =
+    bit-or (run .kinds) behind k ∙ ap₂ _||_ (t .kinds k) (same k ∙ ap (λ b. b && s .follow (p .left) k) (sym e ∙ t .empty))
+
 -- a place of the grammar is that place of the table
 pub at-plain : (ps : List filled.Production) (i : ℕ) (q : filled.Production) (p : Production) → At (map plain ps) i p → q ≡ getD ps i q → p ≡ plain q
 at-plain [] i q p at e = elim at [ ]
@@ -39,15 +50,17 @@ pub at-below : {X : Type 0} {xs : List X} {n : ℕ} {x : X} → At xs n x → n 
 at-below At.here = omega arith
 at-below (At.later at) = let h = at-below at in omega arith
 
--- the words below n are the Predict sets of their productions
-pub record Told (g : List Production) (s : Family) (words : List ℕ) (n : ℕ) : Type 0 where
+-- the words below n are the Predict sets of their productions, and those from n on as they were
+pub record Told (g : List Production) (s : Family) (before words : List ℕ) (n : ℕ) : Type 0 where
   pub long : length words ≡ 126
+  pub kept : (m : ℕ) → n ≤ m → getD words m 0 ≡ getD before m 0
   pub words-told : (m : ℕ) (p : Production) → m < n → At g m p → (k : ℕ) → bit (getD words m 0) k ≡ run-predict s p k
 
-pub told-more : (g : List Production) (s : Family) (words : List ℕ) (n word : ℕ) (q : Production) → n < 126 → ((p : Production) → At g n p → p ≡ q)
-    → ((k : ℕ) → bit word k ≡ run-predict s q k) → Told g s words n → Told g s (set words n word) (n + 1)
-told-more g s words n word q few same bits t = record {
+pub told-more : (g : List Production) (s : Family) (before words : List ℕ) (n word : ℕ) (q : Production) → n < 126 → ((p : Production) → At g n p → p ≡ q)
+    → ((k : ℕ) → bit word k ≡ run-predict s q k) → Told g s before words n → Told g s before (set words n word) (n + 1)
+told-more g s before words n word q few same bits t = record {
   long = length-set words n word ∙ t .long;
+  kept = λ m h. getD-set-other words n m word 0 (omega arith) ∙ t .kept m (omega arith);
   words-told = λ m p h at k. ⊎-elim
       (λ e.
       ap (λ w. bit w k) (ap (λ i. getD (set words n word) i 0) e ∙ getD-set-same words n word 0 (omega (arith, t .long))) ∙ bits k
@@ -56,8 +69,8 @@ told-more g s words n word q few same bits t = record {
       (cases-eq m n);
 }
 
-pub told-all : (g : List Production) (s : Family) (words : List ℕ) (n : ℕ) → Defined g s → Meets g s → length g ≤ n → Told g s words n → Predicted g words
-told-all g s words n d m all t = record {
+pub told-all : (g : List Production) (s : Family) (before words : List ℕ) (n : ℕ) → Defined g s → Meets g s → length g ≤ n → Told g s before words n → Predicted g words
+told-all g s before words n d m all t = record {
   exactly = λ {n = i} {p} at k.
       decides-at _ _ (t .words-told i p (let h = at-below at in omega arith) at k) (predicted g s d m p k);
 }

@@ -1,65 +1,56 @@
--- Round after round, the sets hold only what the rules define, and grow until a round adds nothing. Assumes nothing.
-use mathlib.Core.Path.{_≡_, refl, sym, subst, subst₂, _∙_}
-use mathlib.Core.Bool.{true}
+-- The sets that the rounds end with are those that the rules define. Assumes nothing.
+use mathlib.Core.Path.{_≡_, refl, sym, subst, subst₂, ap, ap₂, _∙_}
+use mathlib.Core.Bool.{false, _&&_, _||_}
 use mathlib.Core.List.{List}
-use mathlib.Core.Logic.{⊎-elim}
-use Prim.Native.Nat.{ℕ, _*_, _-_, _^_, _<_}
-use native.Mathlib.Omega.{arith}
-use lib.ListN.{getD, length}
-use Rattle.std.proofs.shelf.Tests.{false≢true, and-parts, eqb-true, cases-lt}
+use Prim.Native.Nat.{ℕ, zero, suc, _^_}
+use lib.Bits.{bitOr}
+use lib.Dec.{eqb, lit<}
+use lib.ListN.{getD, replicate, set}
+use Rattle.std.proofs.shelf.Tests.{false≢true, and-parts, eqb-true}
 use Rattle.table.specs.Grammar.{Production}
+use Rattle.table.specs.Kinds.{bit}
 use Rattle.sets.specs.declared.words.SetWords.{SetWords}
-use Rattle.sets.specs.Bounds.{Small, Small-production}
-use Rattle.sets.specs.Rounds.{beginning, all-applied}
-use Rattle.sets.specs.Rules.{Family, Within, Defined, Smallest}
+use Rattle.sets.specs.Rounds.{Kept, Sound, beginning}
+use Rattle.sets.specs.Rules.{Family, Everywhere, Empty-rule, First-rule, Inside-rule, Last-rule, Meets}
 use Rattle.sets.specs.Sets.{Follow, end-mark}
 use Rattle.sets.specs.Words.{held}
-use Rattle.sets.proofs.Bits.{bits-below}
-use Rattle.sets.proofs.Growing.{weight, same-weight, weight-below}
-use Rattle.sets.proofs.Limits.{all-at, first-below, follow-below}
-use Rattle.sets.proofs.Smallest.{Sound, sound-all, within-all, meets, defined, smallest}
+use Rattle.sets.proofs.Adding.{bit-joined}
+use Rattle.sets.proofs.Bits.{bit-zero, bit-power}
+use Rattle.sets.proofs.Keeping.{kept-then, keeps-empty, keeps-first, keeps-inside}
 
--- what holds before each round
-pub record Underway (g : List Production) (s : Family) : Type 0 where
-  pub sound : Sound g s
-  pub end : s .follow 0 end-mark ≡ true
+same-family : (s t : Family) → ((a : ℕ) → s .empty a ≡ t .empty a) → ((a k : ℕ) → s .first a k ≡ t .first a k)
+    → ((a k : ℕ) → s .follow a k ≡ t .follow a k) → s ≡ t
+same-family s t e f l = λ i. record { empty = λ a. e a i; first = λ a k. f a k i; follow = λ a k. l a k i }
 
-module _ (g : List Production) where
-  sound-beginning : Sound g beginning
-  sound-beginning = record {
-    empty = λ a h. absurd (false≢true h);
-    first = λ a k h. absurd (false≢true h);
-    follow = λ a k h. let (a-is, k-is) = and-parts _ _ h in subst₂ (Follow g) (eqb-true 0 a a-is) (eqb-true end-mark k k-is) Follow.at-end;
-  }
+zeros : (n a : ℕ) → _≡_ {A = ℕ} (getD (replicate n 0) a 0) 0
+zeros zero a = refl
+zeros (suc n) zero = refl
+zeros (suc n) (suc a) = zeros n a
 
-  pub underway-start : (s : Family) → s ≡ beginning → Underway g s
-  underway-start s e = subst (Underway g) (sym e) (record { sound = sound-beginning; end = refl })
+bit-zeros : (n a k : ℕ) → bit (getD (replicate n 0) a 0) k ≡ false
+bit-zeros n a k = ap (λ w. bit w k) (zeros n a) ∙ bit-zero k
 
-  pub underway-more : (s next : Family) → next ≡ all-applied s g s → Underway g s → Underway g next
-  underway-more s next e u =
-      subst (Underway g) (sym e)
-      (record { sound = sound-all g s (u .sound) g s (λ n p at. (n, at)) (u .sound); end = within-all s s g .follow 0 end-mark (u .end) })
+pub begins : held (record { empty = 0; first = replicate 64 0; follow = set (replicate 64 0) 0 (bitOr (getD (replicate 64 0) 0 0) (2 ^ 63)) }) ≡ beginning
+begins =
+    same-family _ _ bit-zero (bit-zeros 64)
+    (λ a k. bit-joined (replicate 64 0) 0 (2 ^ 63) a k (lit< tt) ∙ ap₂ (λ x y. x || (eqb 0 a && y)) (bit-zeros 64 a k) (bit-power 63 k))
 
-  pub settles : (s next : Family) → next ≡ all-applied s g s → next ≡ s → Underway g s → record { defined : Defined g s; smallest : Smallest g s }
-  settles s next e same u =
-      let m = meets g s (sym e ∙ same) (u .end) in
-      record { defined = defined g s (u .sound) m; smallest = smallest g s (u .sound) m }
+pub sound-start : (g : List Production) (w : SetWords) → held w ≡ beginning → Sound g (held w)
+sound-start g w e = subst (Sound g) (sym e) (record {
+  empty = λ a h. absurd (false≢true h);
+  first = λ a k h. absurd (false≢true h);
+  follow = λ a k h. let (a-is, k-is) = and-parts _ _ h in subst₂ (Follow g) (eqb-true 0 a a-is) (eqb-true end-mark k k-is) Follow.at-end;
+})
 
-module _ (g : List Production) (small : Small g) (w : SetWords) (sound : Sound g (held w)) where
-  empty-fits : w .empty < 2 ^ 64
-  empty-fits = bits-below 64 _ (λ a h. let c = sound .empty a h in subst (λ b. b < 64) (c .left) (all-at Small-production (c .stands) small .0))
-
-  first-fits : (a : ℕ) → getD (w .first) a 0 < 2 ^ 64
-  first-fits a = bits-below 64 _ (λ k h. let c = sound .first a k h in first-below g small (c .items) (all-at Small-production (c .stands) small .1))
-
-  follow-fits : (a : ℕ) → getD (w .follow) a 0 < 2 ^ 64
-  follow-fits a = bits-below 64 _ (λ k h. follow-below g small (sound .follow a k h))
-
-  pub grows : (next : SetWords) → length (w .first) ≡ 64 → length (w .follow) ≡ 64 → length (next .first) ≡ 64 → length (next .follow) ≡ 64
-      → held next ≡ all-applied (held w) g (held w) → (next ≡ w → ⊥) → 129 * 2 ^ 64 - weight next < 129 * 2 ^ 64 - weight w
-  grows next a b c d e differ =
-      let within : Within (held w) (held next) = subst (Within (held w)) (sym e) (within-all (held w) (held w) g) in
-      let below = weight-below w a b empty-fits first-fits follow-fits in
-      ⊎-elim (λ more. omega arith)
-      (λ less. absurd (differ (sym (same-weight w next (a ∙ sym c, b ∙ sym d) empty-fits first-fits follow-fits within less))))
-      (cases-lt (weight w) (weight next))
+-- from the start, the words are t with First settled, u with what comes inside the productions, and w in the end
+pub settled : (g : List Production) (start t u w : SetWords) → held start ≡ beginning → t .follow ≡ start .follow → Everywhere g (Empty-rule (held t))
+    → Everywhere g (First-rule (held t)) → Kept t u → Everywhere g (Inside-rule (held u)) → Kept u w → Everywhere g (Last-rule (held w)) → Meets g (held w)
+settled g start t u w e same empty first one inside two last =
+    let kept = kept-then t u w one two in
+    record {
+      empty = λ n p at. keeps-empty t w kept p (empty n p at);
+      first = λ n p at. keeps-first t w kept p (first n p at);
+      at-end = kept .follow 0 end-mark (ap (λ ws. bit (getD ws 0 0) end-mark) same ∙ ap (λ s. s .follow 0 end-mark) e);
+      inside = λ n p at. keeps-inside u w two p (inside n p at);
+      last = last;
+    }

@@ -30,25 +30,52 @@ run-first s (Kind j ∷ is) k = eqb j k
 run-first s (Nonterminal a o ∷ is) k = s .first a k || (s .empty a && run-first s is k)
 run-first s (Check o ∷ is) k = run-first s is k
 
--- nonterminal a stands in the run, before items that kind k can come after: they can begin with it, or they can be empty and it can
--- follow the left side
-abbrev pub run-follow : Family → ℕ → List Item → ℕ → ℕ → Bool
-run-follow s left [] a k = false
-run-follow s left (Kind j ∷ is) a k = run-follow s left is a k
-run-follow s left (Nonterminal b o ∷ is) a k = (eqb b a && (run-first s is k || (run-empty s is && s .follow left k))) || run-follow s left is a k
-run-follow s left (Check o ∷ is) a k = run-follow s left is a k
+-- nonterminal a stands in the run before items that can begin with a word of kind k
+abbrev pub run-inside : Family → List Item → ℕ → ℕ → Bool
+run-inside s [] a k = false
+run-inside s (Kind j ∷ is) a k = run-inside s is a k
+run-inside s (Nonterminal b o ∷ is) a k = (eqb b a && run-first s is k) || run-inside s is a k
+run-inside s (Check o ∷ is) a k = run-inside s is a k
+
+-- nonterminal a stands in the run before items that can all be empty
+abbrev pub run-last : Family → List Item → ℕ → Bool
+run-last s [] a = false
+run-last s (Kind j ∷ is) a = run-last s is a
+run-last s (Nonterminal b o ∷ is) a = (eqb b a && run-empty s is) || run-last s is a
+run-last s (Check o ∷ is) a = run-last s is a
 
 -- with kind k in sight, a production may be the one to predict: its items can begin with it, or they can be empty and it can follow
 -- the left side
 abbrev pub run-predict : Family → Production → ℕ → Bool
 run-predict s p k = run-first s (p .items) k || (run-empty s (p .items) && s .follow (p .left) k)
 
--- the sets meet their rules at every production
+-- a production whose items can be empty makes its left side one that can
+abbrev pub Empty-rule : Family → Production → Type 0
+Empty-rule s p = run-empty s (p .items) ≡ true → s .empty (p .left) ≡ true
+
+-- what the items of a production can begin with, its left side can
+abbrev pub First-rule : Family → Production → Type 0
+First-rule s p = (k : ℕ) → run-first s (p .items) k ≡ true → s .first (p .left) k ≡ true
+
+-- what the items after a nonterminal can begin with can follow it
+abbrev pub Inside-rule : Family → Production → Type 0
+Inside-rule s p = (a k : ℕ) → run-inside s (p .items) a k ≡ true → s .follow a k ≡ true
+
+-- what can follow the left side can follow a nonterminal after which all items can be empty
+abbrev pub Last-rule : Family → Production → Type 0
+Last-rule s p = (a k : ℕ) → run-last s (p .items) a ≡ true → s .follow (p .left) k ≡ true → s .follow a k ≡ true
+
+-- the rule holds at each production
+abbrev pub Everywhere : List Production → (Production → Type 0) → Type 0
+Everywhere g Rule = (n : ℕ) (p : Production) → At g n p → Rule p
+
+-- the sets meet their rules
 pub record Meets (g : List Production) (s : Family) : Type 0 where
-  pub empty : {n : ℕ} {p : Production} → At g n p → run-empty s (p .items) ≡ true → s .empty (p .left) ≡ true
-  pub first : {n : ℕ} {p : Production} → At g n p → (k : ℕ) → run-first s (p .items) k ≡ true → s .first (p .left) k ≡ true
+  pub empty : Everywhere g (Empty-rule s)
+  pub first : Everywhere g (First-rule s)
   pub at-end : s .follow 0 end-mark ≡ true
-  pub follow : {n : ℕ} {p : Production} → At g n p → (a k : ℕ) → run-follow s (p .left) (p .items) a k ≡ true → s .follow a k ≡ true
+  pub inside : Everywhere g (Inside-rule s)
+  pub last : Everywhere g (Last-rule s)
 
 -- each set of the one lies within that of the other
 pub record Within (s t : Family) : Type 0 where

@@ -7,6 +7,7 @@ ghost use Rattle.std.specs.Of.Vec.{vec-items};
 ghost use Rattle.table.specs.Grammar.{grammar, plain};
 ghost use Rattle.table.specs.Kinds.{bit, has};
 ghost use Rattle.sets.specs.Bounds.{Small, Small-production};
+ghost use Rattle.sets.specs.Rounds.{beginning};
 ghost use Rattle.sets.specs.Rules.{Defined, Smallest, run-predict};
 ghost use Rattle.sets.specs.Words.{held, Predicted};
 use crate::words::PredictWords;
@@ -25,12 +26,38 @@ pub fn listed(table: &Table) -> &[Production]
 }
 
 impl SetWords {
+    // What is known before the first round: Follow of nonterminal 0 holds the end mark.
+    fn start() -> SetWords
+        ensures { λ r. ⌜ held r ≡ beginning ⌝ }
+    {
+        let mut follow = [0; 64];
+        follow[0] |= 1 << 63;
+        SetWords {
+            empty: 0,
+            first: [0; 64],
+            follow,
+        }
+    }
+
+    // Finds the sets of the productions, from what is known before the first round.
+    fn settle(&mut self, productions: &[Production])
+        requires { ⌜ Small (map plain (now productions)) ⌝ ∗ ⌜ held (now self) ≡ beginning ⌝ }
+        ensures defined { λ _. ⌜ Defined (map plain (now (productions .entry))) (held (now (self .exit))) ⌝ }
+        ensures smallest { λ _. ⌜ Smallest (map plain (now (productions .entry))) (held (now (self .exit))) ⌝ }
+    {
+        self.settle_first(productions);
+        self.inside_round(productions);
+        self.settle_follow(productions);
+    }
+
     // The sets of the table, the smallest that meet their rules.
     pub fn of(table: &Table) -> SetWords
         ensures defined { λ r. ⌜ Defined (grammar (now (table .entry) .draft)) (held r) ⌝ }
         ensures smallest { λ r. ⌜ Smallest (grammar (now (table .entry) .draft)) (held r) ⌝ }
     {
-        SetWords::settled(listed(table))
+        let mut sets = SetWords::start();
+        sets.settle(listed(table));
+        sets
     }
 
     // Whether the nonterminal can be empty.
@@ -68,17 +95,26 @@ impl SetWords {
     }
 }
 
+// Writes the Predict set of each production of the table into its word; the words past the last production stay.
+pub fn write_predicts(table: &Table, words: &mut [u64; 126])
+    ensures written { λ _. ⌜ Predicted (grammar (now (table .entry) .draft)) (now (words .exit)) ⌝ }
+    ensures kept { λ _. ⌜ ((n : ℕ) → length (grammar (now (table .entry) .draft)) ≤ n → getD (now (words .exit)) n 0 ≡ getD (now (words .entry)) n 0) ⌝ }
+{
+    let productions = listed(table);
+    let mut sets = SetWords::start();
+    sets.settle(productions);
+    for (n, production) in productions.iter().enumerate() {
+        words[n] = sets.predict(production);
+    }
+}
+
 impl PredictWords {
     // The Predict sets of the table's productions.
     pub fn of(table: &Table) -> PredictWords
         ensures { λ r. ⌜ Predicted (grammar (now (table .entry) .draft)) (r .words) ⌝ }
     {
-        let sets = SetWords::of(table);
-        let productions = listed(table);
         let mut words = [0; 126];
-        for (n, production) in productions.iter().enumerate() {
-            words[n] = sets.predict(production);
-        }
+        write_predicts(table, &mut words);
         PredictWords { words }
     }
 

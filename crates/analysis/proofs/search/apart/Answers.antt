@@ -1,7 +1,8 @@
 use mathlib.Core.Path.{_≡_, subst, sym}
 use lib.Bits.{bitAnd}
 use lib.ListN.{getD}
-use Rattle.analysis.proofs.Searching.{both-none, below-or-at}
+use Rattle.analysis.proofs.Words.{both-none}
+use Rattle.analysis.proofs.Standing.{below-or-at}
 use Rattle.analysis.proofs.search.apart.Needs as need
 
 pub loop-i-again : need.loop-i-again

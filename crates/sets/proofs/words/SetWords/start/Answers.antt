@@ -1,4 +1,4 @@
-use Rattle.sets.proofs.Going.{begins}
+use Rattle.sets.proofs.Settling.{begins}
 use Rattle.sets.proofs.words.SetWords.start.Needs as need
 
 pub returns : need.returns
