@@ -2,19 +2,18 @@
 use mathlib.Core.Path.{_≡_, refl, sym, subst, ap, _∙_}
 use mathlib.Core.Bool.{true, _&&_}
 use mathlib.Core.List.{List}
-use mathlib.Core.Logic.{⊎-elim}
 use Prim.Native.Nat.{ℕ, _+_, _<_, _≤_}
 use native.Mathlib.Omega.{arith}
 use lib.Bits.{bitAnd, bitOr}
 use lib.ListN.{getD, length, set, length-set}
 use lib.Seq.{getD-set-same, getD-set-other}
 use Rattle.std.specs.Orderings.{Decides}
-use Rattle.std.proofs.shelf.Tests.{cases-eq, and-parts, and-from, or-left, or-right}
+use Rattle.std.proofs.shelf.Tests.{and-parts, and-from, or-left, or-right, eq-eqb}
 use Rattle.table.specs.Grammar.{Production}
 use Rattle.table.specs.Kinds.{bit}
 use Rattle.sets.specs.Sets.{At, Predict}
 use Rattle.sets.specs.Words.{Predicted}
-use Rattle.sets.proofs.Bits.{bit-and, bit-or}
+use Rattle.sets.proofs.Bits.{bit-and, bit-joined}
 use Rattle.analysis.specs.Contested.{Sees, Seen, Shared, Contested}
 use Rattle.analysis.proofs.Standing.{Below, below-none, below-next, below-all}
 
@@ -56,18 +55,10 @@ abbrev pub joined : List ℕ → ℕ → ℕ → List ℕ
 joined words i more = set words i (bitOr (getD words i 0) more)
 
 joined-old : (words : List ℕ) (i more j k : ℕ) → i < length words → bit (getD words j 0) k ≡ true → bit (getD (joined words i more) j 0) k ≡ true
-joined-old words i more j k within h = ⊎-elim same other (cases-eq j i)
-  where
-    same : j ≡ i → bit (getD (joined words i more) j 0) k ≡ true
-    same e =
-        ap (λ n. bit (getD (joined words i more) n 0) k) e ∙ ap (λ w. bit w k) (getD-set-same words i _ 0 within) ∙ bit-or (getD words i 0) more k
-        ∙ or-left _ _ (ap (λ n. bit (getD words n 0) k) (sym e) ∙ h)
-
-    other : (j ≡ i → ⊥) → bit (getD (joined words i more) j 0) k ≡ true
-    other ne = ap (λ w. bit w k) (getD-set-other words i j _ 0 ne) ∙ h
+joined-old words i more j k within h = bit-joined words i more j k within ∙ or-left _ _ h
 
 joined-new : (words : List ℕ) (i more k : ℕ) → i < length words → bit more k ≡ true → bit (getD (joined words i more) i 0) k ≡ true
-joined-new words i more k within h = ap (λ w. bit w k) (getD-set-same words i _ 0 within) ∙ bit-or (getD words i 0) more k ∙ or-right _ _ h
+joined-new words i more k within h = bit-joined words i more i k within ∙ or-right _ _ (and-from _ _ (eq-eqb i i refl) h)
 
 module _ (g : List Production) (kinds : List ℕ) where
   -- the left side's word has the kinds of production m

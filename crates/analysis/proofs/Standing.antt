@@ -10,18 +10,15 @@ use Rattle.table.specs.declared.drafts.Production as filled
 use Rattle.table.specs.Grammar.{Production, plain}
 use Rattle.sets.specs.Bounds.{Small}
 use Rattle.sets.specs.Sets.{At}
-use Rattle.sets.proofs.Predicting.{at-below, at-listed}
+use Rattle.sets.proofs.Limits.{small-at}
+use Rattle.sets.proofs.Predicting.{at-below}
 
 pub at-same : {X : Type 0} {xs : List X} {n : ℕ} {x y : X} → At xs n x → At xs n y → x ≡ y
 at-same At.here At.here = refl
 at-same (At.later one) (At.later other) = at-same one other
 
-small-at : {g : List Production} {n : ℕ} {p : Production} → At g n p → Small g → p .left < 64
-small-at At.here small = small .0 .0
-small-at (At.later at) small = small-at at (small .1)
-
 pub left-small : (ps : List filled.Production) (i : ℕ) (q : filled.Production) → i < length ps → q ≡ getD ps i q → Small (map plain ps) → q .left < 64
-left-small ps i q within is small = small-at (at-listed ps i q within is) small
+left-small ps i q within is small = small-at ps i q within is small .0
 
 pub below-or-at : {X : Type 0} (m n : ℕ) → m < n + 1 → (m < n → X) → (m ≡ n → X) → X
 below-or-at m n h below at = ⊎-elim below (λ l. at (omega arith)) (cases-lt m n)

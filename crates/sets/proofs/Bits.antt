@@ -1,6 +1,7 @@
--- Bits of numbers. Assumes nothing.
-use mathlib.Core.Path.{_≡_, sym, ap, _∙_}
-use mathlib.Core.Bool.{true, false, _&&_, _||_}
+-- Bits of numbers, and of the words of a list. Assumes nothing.
+use mathlib.Core.Path.{_≡_, sym, ap, ap₂, _∙_}
+use mathlib.Core.Bool.{true, false, _&&_, _||_, or-false}
+use mathlib.Core.List.{List}
 use mathlib.Core.Logic.{⊎-elim}
 use Prim.Native.Nat.{ℕ, zero, suc, _+_, _*_, _/_, _%_, _^_, _<_, _≤_}
 use native.Mathlib.Nat.{div-eq-of-lt}
@@ -8,6 +9,8 @@ use native.Mathlib.Numerals.{one-add}
 use native.Mathlib.Omega.{arith}
 use lib.Bits.{bitAnd, bitOr, or-step, and-step}
 use lib.Dec.{eqb}
+use lib.ListN.{getD, length, set}
+use lib.Seq.{getD-set-same, getD-set-other}
 use Rattle.std.proofs.shelf.Bits.{and-mask, and-shr, or-shr, one-shl, pow-add, pow-pos, shr-shr}
 use Rattle.std.proofs.shelf.Tests.{cases-eq, eq-eqb, ne-eqb}
 use Rattle.std.proofs.shelf.Ways.{tells}
@@ -71,3 +74,19 @@ bits-below zero a below =
 bits-below (suc m) a below =
     let half : a / 2 < 2 ^ m = bits-below m (a / 2) (λ k e. let h = below (suc k) (sym (bit-half a k) ∙ e) in omega arith) in
     omega (arith, pow-add 2 1 m, one-add m)
+
+-- the words with more put into the one at b
+pub bit-joined : (ws : List ℕ) (b more a k : ℕ) → b < length ws
+    → bit (getD (set ws b (bitOr (getD ws b 0) more)) a 0) k ≡ (bit (getD ws a 0) k || (eqb b a && bit more k))
+bit-joined ws b more a k h = ⊎-elim same other (cases-eq b a)
+  where
+    same : b ≡ a → bit (getD (set ws b (bitOr (getD ws b 0) more)) a 0) k ≡ (bit (getD ws a 0) k || (eqb b a && bit more k))
+    same e =
+        ap (λ n. bit (getD (set ws b (bitOr (getD ws b 0) more)) n 0) k) (sym e)
+        ∙ ap (λ n. bit n k) (getD-set-same ws b (bitOr (getD ws b 0) more) 0 h) ∙ bit-or (getD ws b 0) more k
+        ∙ ap₂ _||_ (ap (λ n. bit (getD ws n 0) k) e) (ap (λ t. t && bit more k) (sym (eq-eqb b a e)))
+
+    other : (b ≡ a → ⊥) → bit (getD (set ws b (bitOr (getD ws b 0) more)) a 0) k ≡ (bit (getD ws a 0) k || (eqb b a && bit more k))
+    other ne =
+        ap (λ n. bit n k) (getD-set-other ws b a (bitOr (getD ws b 0) more) 0 (λ e. ne (sym e)))
+        ∙ sym (or-false (bit (getD ws a 0) k)) ∙ ap (λ t. bit (getD ws a 0) k || (t && bit more k)) (sym (ne-eqb b a ne))

@@ -16,8 +16,7 @@ use Rattle.sets.specs.declared.words.SetWords.{SetWords}
 use Rattle.sets.specs.Rounds.{Added-follow, Grown, from-inside, from-left}
 use Rattle.sets.specs.Rules.{Family, run-empty, run-first, run-last}
 use Rattle.sets.specs.Words.{held}
-use Rattle.sets.proofs.Adding.{bit-joined}
-use Rattle.sets.proofs.Bits.{bit-or, bit-shl}
+use Rattle.sets.proofs.Bits.{bit-joined, bit-or, bit-shl}
 use Rattle.sets.proofs.Growing.{grown-none, grown-then, sum-grows, set-same}
 use Rattle.sets.proofs.Walks.{at-item}
 

@@ -14,8 +14,7 @@ use Rattle.sets.specs.Rounds.{Kept, Sound, beginning}
 use Rattle.sets.specs.Rules.{Family, Everywhere, Empty-rule, First-rule, Inside-rule, Last-rule, Meets}
 use Rattle.sets.specs.Sets.{Follow, end-mark}
 use Rattle.sets.specs.Words.{held}
-use Rattle.sets.proofs.Adding.{bit-joined}
-use Rattle.sets.proofs.Bits.{bit-zero, bit-power}
+use Rattle.sets.proofs.Bits.{bit-joined, bit-zero, bit-power}
 use Rattle.sets.proofs.Keeping.{kept-then, keeps-empty, keeps-first, keeps-inside}
 
 same-family : (s t : Family) → ((a : ℕ) → s .empty a ≡ t .empty a) → ((a k : ℕ) → s .first a k ≡ t .first a k)
