@@ -1,6 +1,6 @@
 -- The rows of a test's answers, and what is known at the places of tests. Assumes nothing.
-use mathlib.Core.Path.{_≡_, refl, sym, subst, ap, ap₂, _∙_}
-use mathlib.Core.Bool.{Bool, true, false, _&&_, _||_, and-true, or-false}
+use mathlib.Core.Path.{_≡_, sym, subst, ap, ap₂, _∙_}
+use mathlib.Core.Bool.{Bool, true, false, _&&_, _||_, and-true, or-false, and-false}
 use mathlib.Core.List.{List, []}
 use mathlib.Core.Logic.{⊎-elim}
 use Prim.Native.Nat.{ℕ, _+_, _*_, _%_, _^_, _<_, _≤_}
@@ -57,12 +57,8 @@ module _ (t : ℕ → Bool) where
       bit-or row mark j ∙ ap (λ x. bit row j || x) (ap (λ m. bit m j) is ∙ bit-power n j ∙ sym (and-true (eqb n j))) ∙ row-more n (bit row j) true j says (inv j)
 
   pub row-else : (row n : ℕ) → t n ≡ false → ((j : ℕ) → bit row j ≡ (ltb j n && t j)) → (j : ℕ) → bit row j ≡ (ltb j (n + 1) && t j)
-  row-else row n says inv j = nothing (bit row j) (eqb n j) ∙ row-more n (bit row j) false j says (inv j)
-    where
-      nothing : (x y : Bool) → x ≡ (x || (y && false))
-      nothing true y = refl
-      nothing false true = refl
-      nothing false false = refl
+  row-else row n says inv j =
+      sym (or-false (bit row j)) ∙ ap (λ x. bit row j || x) (sym (and-false (eqb n j))) ∙ row-more n (bit row j) false j says (inv j)
 
 module _ (t : ℕ → ℕ → Bool) (classes : ℕ) where
   -- the rows below n are the test's answers, and `all` is 0 only if they are

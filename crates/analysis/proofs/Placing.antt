@@ -8,16 +8,13 @@ use Rattle.table.specs.Grammar.{Production}
 use Rattle.sets.specs.Sets.{At}
 use Rattle.analysis.specs.declared.places.Tests.{Tests}
 use Rattle.analysis.specs.Places.{Placed, All-placed}
-use Rattle.analysis.proofs.Standing.{Below, below-none, below-next, below-all}
+use Rattle.analysis.proofs.Standing.{Below, below-next, below-all}
 
 module _ (g : List Production) (kinds : List ℕ) where
-  -- so have the tests of the productions below n
+  -- the tests of the productions below n whose words are not 0 have places
   pub record Placing (t : Tests) (n : ℕ) : Type 0 where
     pub few : t .count ≤ n
     pub placed : Below g n (λ m p. (getD kinds m 0 ≡ 0 → ⊥) → Placed t (p .test))
-
-  pub placing-none : (t : Tests) → t .count ≡ 0 → Placing t 0
-  placing-none t none = record { few = omega arith; placed = below-none g _ }
 
   -- a production that has a kind
   pub placing-then : (t t′ : Tests) (n : ℕ) (q : Production) → At g n q → t′ .count ≤ t .count + 1 → Placed t′ (q .test)

@@ -1,7 +1,7 @@
 -- Bits of words, as the code tests them. Assumes nothing.
 use mathlib.Core.Path.{_≡_, sym, ap, _∙_}
 use mathlib.Core.Bool.{true}
-use Prim.Native.Nat.{ℕ, _/_, _%_, _^_}
+use Prim.Native.Nat.{ℕ, _/_, _^_}
 use native.Mathlib.Omega.{arith}
 use lib.Bits.{bitAnd, bitOr}
 use Rattle.std.proofs.shelf.Bits.{and-mask, or-comm}
@@ -9,17 +9,12 @@ use Rattle.std.proofs.shelf.Tests.{eqb-true, eq-eqb, or-left, false≢true}
 use Rattle.table.specs.Kinds.{bit}
 use Rattle.sets.proofs.Bits.{bit-or, bit-zero, bits-below}
 
--- a bit that a test `n >> k & 1` did not find
-pub bit-clear : (n k : ℕ) → bitAnd (n / 2 ^ k) 1 ≡ 0 → bit n k ≡ true → ⊥
-bit-clear n k e set = let one = eqb-true _ 1 set in let two = and-mask (n / 2 ^ k) 1 in omega arith
+-- the test `n >> k & 1 == 1`
+pub bit-taken : (n k : ℕ) → bitAnd (n / 2 ^ k) 1 ≡ 1 → bit n k ≡ true
+bit-taken n k e = eq-eqb _ 1 (sym (and-mask (n / 2 ^ k) 1) ∙ e)
 
-pub bit-unset : (n k : ℕ) → (bitAnd (n / 2 ^ k) 1 ≡ 1 → ⊥) → bit n k ≡ true → ⊥
-bit-unset n k ne set = ne (and-mask (n / 2 ^ k) 1 ∙ eqb-true _ 1 set)
-
-pub bit-found : (n k : ℕ) → (bitAnd (n / 2 ^ k) 1 ≡ 0 → ⊥) → bit n k ≡ true
-bit-found n k ne =
-    let mask : bitAnd (n / 2 ^ k) 1 ≡ n / 2 ^ k % 2 = and-mask (n / 2 ^ k) 1 in
-    eq-eqb _ 1 (omega (arith, ne))
+pub bit-left : (n k : ℕ) → (bitAnd (n / 2 ^ k) 1 ≡ 1 → ⊥) → bit n k ≡ true → ⊥
+bit-left n k ne set = ne (and-mask (n / 2 ^ k) 1 ∙ eqb-true _ 1 set)
 
 -- two words that are empty when joined
 pub both-none : (a b : ℕ) → bitOr a b ≡ 0 → (a ≡ 0) × (b ≡ 0)

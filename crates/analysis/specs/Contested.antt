@@ -1,5 +1,4 @@
--- The kinds at which productions can clash, as a word for each. No contract of a public function
--- cites it. Assumes nothing.
+-- The kinds at which productions can clash, as a word for each. No contract of a public function cites it. Assumes nothing.
 use mathlib.Core.Path.{_≡_}
 use mathlib.Core.Bool.{true}
 use mathlib.Core.List.{List}
@@ -25,7 +24,7 @@ pub record Shared (g : List Production) (kinds shared : List ℕ) : Type 0 where
   pub all : {a b : ℕ} {p q : Production} → At g a p → At g b q → a < b → p .left ≡ q .left
       → (k : ℕ) → bit (getD kinds a 0) k ≡ true → bit (getD kinds b 0) k ≡ true → bit (getD shared (p .left) 0) k ≡ true
 
--- word n has only kinds that production n sees, and each at which it clashes with another, whatever the tests say
+-- word n has only kinds that production n sees, and each at which, under some tests, it clashes with another
 pub record Contested (g : List Production) (kinds : List ℕ) : Type 0 where
   pub only : {n : ℕ} {p : Production} → At g n p → (k : ℕ) → bit (getD kinds n 0) k ≡ true → Sees g p k
   pub all : {c : Classes} {a b k i j : ℕ} → Clash c g a b k i j → (bit (getD kinds a 0) k ≡ true) × (bit (getD kinds b 0) k ≡ true)

@@ -1,5 +1,4 @@
--- What the search for the first clash finds. No contract of a public function
--- cites it. Assumes nothing.
+-- What the search for the first clash finds. No contract of a public function cites it. Assumes nothing.
 use mathlib.Core.List.{List}
 use Rattle.domain.specs.Meaning.{Classes}
 use Rattle.table.specs.Grammar.{Production}

@@ -6,7 +6,7 @@ ghost use Rattle.table.specs.Grammar.{plain};
 ghost use Rattle.analysis.specs.Places.{Placed, All-placed};
 use table::drafts::Production;
 
-// Tests by their numbers, each once: so many of `numbers`, and where among them a test stands.
+// Tests by number, each once: the first `count` of `numbers`; `places` says where among them a test stands.
 #[derive(Drop)]
 pub(crate) struct Tests {
     pub(crate) count: u8,

@@ -18,7 +18,7 @@ use crate::said::Said;
 use domain::Domain;
 use table::drafts::Production;
 
-// Whether no row has a bit in common.
+// Whether the rows of no class have a bit in common.
 fn apart(one: &[u64; 64], other: &[u64; 64]) -> bool
     ensures { λ r. ⌜ (r ≡ true → (i : ℕ) → i < 64 → bitAnd (getD (now (one .entry)) i 0) (getD (now (other .entry)) i 0) ≡ 0) ⌝ }
 {
@@ -29,8 +29,8 @@ fn apart(one: &[u64; 64], other: &[u64; 64]) -> bool
     common == 0
 }
 
-// The first clash in the order of productions a and b, kind and classes. A test is asked when two productions have a kind in common,
-// and what it says is kept at its place among the rows.
+// The first clash in the order of productions a and b, kind and classes. A test is asked when two productions of one left side have a
+// kind in common, and what it says is kept at its place among the rows.
 pub(crate) fn first_clash<D: Domain>(
     domain: &D,
     productions: &[Production],
@@ -72,7 +72,7 @@ pub(crate) fn first_clash<D: Domain>(
                 continue;
             }
             for kind in 0..64 {
-                if common >> kind & 1 == 0 {
+                if common >> kind & 1 != 1 {
                     continue;
                 }
                 for inherited in 0..classes {

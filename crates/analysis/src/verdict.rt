@@ -15,8 +15,8 @@ use domain::Domain;
 use sets::found::listed;
 use table::made::Table;
 
-// The first clash of the table's productions. There is room for the rows of two tests, of a few, or of as
-// many as there are productions.
+// The first clash of the table's productions. There is room for the rows of 2, 8 or 126 tests, the last as many as a table can have
+// productions.
 fn clash<D: Domain>(table: &Table, domain: &D) -> Option<CheckFault>
     requires { ⌜ meaning (now domain) .classes .count ≤ 64 ⌝ }
     ensures { λ r. ⌜ BySome r (Clash-free (meaning (now (domain .entry)) .classes) (grammar (now (table .entry) .draft))) (First-clash (meaning (now (domain .entry)) .classes) (grammar (now (table .entry) .draft))) ⌝ }

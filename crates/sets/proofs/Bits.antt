@@ -11,7 +11,7 @@ use lib.Bits.{bitAnd, bitOr, or-step, and-step}
 use lib.Dec.{eqb}
 use lib.ListN.{getD, length, set}
 use lib.Seq.{getD-set-same, getD-set-other}
-use Rattle.std.proofs.shelf.Bits.{and-mask, and-shr, or-shr, one-shl, pow-add, pow-pos, shr-shr}
+use Rattle.std.proofs.shelf.Bits.{and-shr, or-shr, one-shl, pow-add, pow-pos, shr-shr}
 use Rattle.std.proofs.shelf.Tests.{cases-eq, eq-eqb, ne-eqb}
 use Rattle.std.proofs.shelf.Ways.{tells}
 use Rattle.table.specs.Kinds.{bit}
@@ -44,10 +44,6 @@ bit-power j k = ⊎-elim same other (cases-eq j k)
 
 pub bit-shl : (j k : ℕ) → j < 64 → bit (1 * 2 ^ j % 2 ^ 64) k ≡ eqb j k
 bit-shl j k h = ap (λ n. bit n k) (one-shl j 64 h) ∙ bit-power j k
-
--- the test `n >> k & 1 == 1`
-pub bit-taken : (n k : ℕ) → bitAnd (n / 2 ^ k) 1 ≡ 1 → bit n k ≡ true
-bit-taken n k e = eq-eqb _ 1 (sym (and-mask (n / 2 ^ k) 1) ∙ e)
 
 bit-half : (n k : ℕ) → bit (n / 2) k ≡ bit n (suc k)
 bit-half n k =

@@ -1,6 +1,6 @@
 -- What one production adds to the Follow sets. Assumes nothing.
 use mathlib.Core.Path.{_≡_, refl, sym, ap, ap₂, _∙_}
-use mathlib.Core.Bool.{Bool, true, false, not, _&&_, _||_, or-false}
+use mathlib.Core.Bool.{Bool, true, false, not, _&&_, _||_, or-assoc, or-comm, or-false}
 use mathlib.Core.List.{List, [], _∷_}
 use Prim.Native.Nat.{ℕ, zero, suc, _-_, _*_, _%_, _^_, _<_, _≤_}
 use native.Mathlib.Omega.{arith}
@@ -13,22 +13,12 @@ use Rattle.table.specs.declared.drafts.Item.the-variants.{Kind, Nonterminal, Ch
 use Rattle.table.specs.declared.drafts.Operation.{Operation}
 use Rattle.table.specs.Kinds.{bit}
 use Rattle.sets.specs.declared.words.SetWords.{SetWords}
-use Rattle.sets.specs.Rounds.{Added-follow, Grown, from-inside, from-left}
-use Rattle.sets.specs.Rules.{Family, run-empty, run-first, run-last}
+use Rattle.sets.specs.Rounds.{Added-follow, Grown, from-left}
+use Rattle.sets.specs.Rules.{Family, run-empty, run-first, run-inside, run-last}
 use Rattle.sets.specs.Words.{held}
 use Rattle.sets.proofs.Bits.{bit-joined, bit-or, bit-shl}
 use Rattle.sets.proofs.Growing.{grown-none, grown-then, sum-grows, set-same}
 use Rattle.sets.proofs.Walks.{at-item}
-
-or-assoc : (x y z : Bool) → ((x || y) || z) ≡ (x || (y || z))
-or-assoc true y z = refl
-or-assoc false y z = refl
-
-or-swap : (x y : Bool) → (x || y) ≡ (y || x)
-or-swap true true = refl
-or-swap true false = refl
-or-swap false true = refl
-or-swap false false = refl
 
 spread : (x l f : Bool) → (((x && true) || l) && f) ≡ ((l && f) || (x && f))
 spread true true true = refl
@@ -75,14 +65,18 @@ module _ (v : SetWords) where
   }
 
   inside-more : (rest : List Item) (b : ℕ) (o : Operation) (word : ℕ) → ((k : ℕ) → bit word k ≡ run-first (held v) rest k)
-      → (a k : ℕ) → from-inside v (Nonterminal b o ∷ rest) a k ≡ (from-inside v rest a k || (eqb b a && bit word k))
-  inside-more rest b o word tells a k = or-swap (eqb b a && run-first (held v) rest k) (from-inside v rest a k) ∙ ap (λ x. from-inside v rest a k || (eqb b a && x)) (sym (tells k))
+      → (a k : ℕ) → run-inside (held v) (Nonterminal b o ∷ rest) a k ≡ (run-inside (held v) rest a k || (eqb b a && bit word k))
+  inside-more rest b o word tells a k = or-comm (eqb b a && run-first (held v) rest k) (run-inside (held v) rest a k) ∙ ap (λ x. run-inside (held v) rest a k || (eqb b a && x)) (sym (tells k))
 
   pub behind-more : (left : ℕ) (rest : List Item) (b : ℕ) (o : Operation) → run-empty (held v) rest ≡ true
       → (a k : ℕ) → from-left v left (Nonterminal b o ∷ rest) a k ≡ (from-left v left rest a k || (eqb b a && held v .follow left k))
   behind-more left rest b o e a k =
       ap (λ x. ((eqb b a && x) || run-last (held v) rest a) && held v .follow left k) e
       ∙ spread (eqb b a) (run-last (held v) rest a) (held v .follow left k)
+
+-- whether a nonterminal can be empty, as the words still have it
+empty-known : (v : SetWords) (by : ℕ → ℕ → Bool) (w : SetWords) (b : ℕ) (e : Bool) → Added-follow v by w → bit (w .empty) b ≡ e → held v .empty b ≡ e
+empty-known v by w b e d is = ap (λ x. bit x b) (sym (d .empty)) ∙ is
 
 -- before items that cannot all be empty, nothing is last
 module _ (s : Family) where
@@ -113,7 +107,7 @@ grown-at w b word h = record {
 -- the items from here on are done: what they can begin with is known, and the Follow sets have what it gives
 pub record Done-inside (v : SetWords) (rest : List Item) (after : ℕ) (w : SetWords) : Type 0 where
   pub begins : (k : ℕ) → bit after k ≡ run-first (held v) rest k
-  pub followed : Added-follow v (from-inside v rest) w
+  pub followed : Added-follow v (run-inside (held v) rest) w
 
 module _ (v w : SetWords) (rest : List Item) (after : ℕ) (d : Done-inside v rest after w) where
   pub done-kind : (j : ℕ) → j < 64 → Done-inside v (Kind j ∷ rest) (1 * 2 ^ j % 2 ^ 64) w
@@ -123,21 +117,18 @@ module _ (v w : SetWords) (rest : List Item) (after : ℕ) (d : Done-inside v re
   done-check o = record { begins = d .begins; followed = followed-same v _ _ w (λ a k. refl) (d .followed) }
 
   module _ (b : ℕ) (o : Operation) (h : b < length (w .follow)) where
-    joined : Added-follow v (from-inside v (Nonterminal b o ∷ rest)) (joined-in w b after)
+    joined : Added-follow v (run-inside (held v) (Nonterminal b o ∷ rest)) (joined-in w b after)
     joined = followed-at v _ _ w b after h (inside-more v rest b o after (d .begins)) (d .followed)
 
     first-known : (k : ℕ) → bit (getD (w .first) b 0) k ≡ held v .first b k
     first-known k = ap (λ ws. bit (getD ws b 0) k) (d .followed .first)
-
-    empty-known : (e : Bool) → bit (w .empty) b ≡ e → held v .empty b ≡ e
-    empty-known e is = ap (λ x. bit x b) (sym (d .followed .empty)) ∙ is
 
     pub done-past : bit (w .empty) b ≡ true → Done-inside v (Nonterminal b o ∷ rest) (bitOr (getD (w .first) b 0) after)
         (joined-in w b after)
     done-past e = record {
       begins = λ k.
           bit-or (getD (w .first) b 0) after k
-          ∙ ap₂ _||_ (first-known k) (d .begins k ∙ ap (λ x. x && run-first (held v) rest k) (sym (empty-known true e)));
+          ∙ ap₂ _||_ (first-known k) (d .begins k ∙ ap (λ x. x && run-first (held v) rest k) (sym (empty-known v _ w b true (d .followed) e)));
       followed = joined;
     }
 
@@ -146,7 +137,7 @@ module _ (v w : SetWords) (rest : List Item) (after : ℕ) (d : Done-inside v re
     done-at e = record {
       begins = λ k.
           first-known k ∙ sym (or-false (held v .first b k))
-          ∙ ap (λ x. held v .first b k || (x && run-first (held v) rest k)) (sym (empty-known false e));
+          ∙ ap (λ x. held v .first b k || (x && run-first (held v) rest k)) (sym (empty-known v _ w b false (d .followed) e));
       followed = joined;
     }
 
@@ -174,15 +165,12 @@ module _ (v w : SetWords) (left : ℕ) (grown : Bool) where
     pub last-growth : Grown (grown || new-in w b word) v (joined-in w b word)
     last-growth = grown-then grown _ v w (joined-in w b word) (d .growth) (grown-at w b word h)
 
-    empty-is : (e : Bool) → bit (w .empty) b ≡ e → held v .empty b ≡ e
-    empty-is e known = ap (λ x. bit x b) (sym (d .followed .empty)) ∙ known
-
     pub last-past : bit (w .empty) b ≡ true
         → Done-last v left (Nonterminal b o ∷ rest) (grown || new-in w b word) (joined-in w b word)
-    last-past e = record { empty = and-from _ _ (empty-is true e) (d .empty); followed = last-followed; growth = last-growth }
+    last-past e = record { empty = and-from _ _ (empty-known v _ w b true (d .followed) e) (d .empty); followed = last-followed; growth = last-growth }
 
     pub last-not-empty : bit (w .empty) b ≡ false → run-empty (held v) (Nonterminal b o ∷ rest) ≡ false
-    last-not-empty e = and-left _ _ (empty-is false e)
+    last-not-empty e = and-left _ _ (empty-known v _ w b false (d .followed) e)
 
 -- where the items from here on cannot all be empty, nothing before them is last
 pub last-stopped : (v w : SetWords) (left : ℕ) (is : List Item) (i : ℕ) (item : Item) → 0 < i → i ≤ length is → getD is (i - 1) (Kind 0) ≡ item

@@ -16,9 +16,9 @@ use Rattle.table.specs.Grammar.{Production, plain}
 use Rattle.table.specs.Kinds.{bit}
 use Rattle.sets.specs.declared.words.Run.{Run}
 use Rattle.sets.specs.Rounds.{Sound}
-use Rattle.sets.specs.Rules.{Family, Defined, Meets, run-predict}
+use Rattle.sets.specs.Rules.{Family, Defined, Meets}
 use Rattle.sets.specs.Sets.{At, Predict}
-use Rattle.sets.specs.Words.{Predicted, Tells}
+use Rattle.sets.specs.Words.{run-predict, Predicted, Tells}
 use Rattle.sets.proofs.Bits.{bit-or}
 use Rattle.sets.proofs.Smallest.{empty-in, first-in, follow-in, empty-out, first-out}
 
@@ -51,28 +51,28 @@ at-below At.here = omega arith
 at-below (At.later at) = let h = at-below at in omega arith
 
 -- the words below n are the Predict sets of their productions, and those from n on as they were
-pub record Told (g : List Production) (s : Family) (before words : List ℕ) (n : ℕ) : Type 0 where
+pub record Written (g : List Production) (s : Family) (before words : List ℕ) (n : ℕ) : Type 0 where
   pub long : length words ≡ 126
   pub kept : (m : ℕ) → n ≤ m → getD words m 0 ≡ getD before m 0
-  pub words-told : (m : ℕ) (p : Production) → m < n → At g m p → (k : ℕ) → bit (getD words m 0) k ≡ run-predict s p k
+  pub predicts : (m : ℕ) (p : Production) → m < n → At g m p → (k : ℕ) → bit (getD words m 0) k ≡ run-predict s p k
 
-pub told-more : (g : List Production) (s : Family) (before words : List ℕ) (n word : ℕ) (q : Production) → n < 126 → ((p : Production) → At g n p → p ≡ q)
-    → ((k : ℕ) → bit word k ≡ run-predict s q k) → Told g s before words n → Told g s before (set words n word) (n + 1)
-told-more g s before words n word q few same bits t = record {
+pub written-more : (g : List Production) (s : Family) (before words : List ℕ) (n word : ℕ) (q : Production) → n < 126 → ((p : Production) → At g n p → p ≡ q)
+    → ((k : ℕ) → bit word k ≡ run-predict s q k) → Written g s before words n → Written g s before (set words n word) (n + 1)
+written-more g s before words n word q few same bits t = record {
   long = length-set words n word ∙ t .long;
   kept = λ m h. getD-set-other words n m word 0 (omega arith) ∙ t .kept m (omega arith);
-  words-told = λ m p h at k. ⊎-elim
+  predicts = λ m p h at k. ⊎-elim
       (λ e.
       ap (λ w. bit w k) (ap (λ i. getD (set words n word) i 0) e ∙ getD-set-same words n word 0 (omega (arith, t .long))) ∙ bits k
       ∙ ap (λ r. run-predict s r k) (sym (same p (subst (λ i. At g i p) e at))))
-      (λ ne. ap (λ w. bit w k) (getD-set-other words n m word 0 ne) ∙ t .words-told m p (omega (arith, ne)) at k)
+      (λ ne. ap (λ w. bit w k) (getD-set-other words n m word 0 ne) ∙ t .predicts m p (omega (arith, ne)) at k)
       (cases-eq m n);
 }
 
-pub told-all : (g : List Production) (s : Family) (before words : List ℕ) (n : ℕ) → Defined g s → Meets g s → length g ≤ n → Told g s before words n → Predicted g words
-told-all g s before words n d m all t = record {
+pub written-all : (g : List Production) (s : Family) (before words : List ℕ) (n : ℕ) → Defined g s → Meets g s → length g ≤ n → Written g s before words n → Predicted g words
+written-all g s before words n d m all t = record {
   exactly = λ {n = i} {p} at k.
-      decides-at _ _ (t .words-told i p (let h = at-below at in omega arith) at k) (predicted g s d m p k);
+      decides-at _ _ (t .predicts i p (let h = at-below at in omega arith) at k) (predicted g s d m p k);
 }
 
 pub at-listed : (ps : List filled.Production) (i : ℕ) (q : filled.Production) → i < length ps → q ≡ getD ps i q → At (map plain ps) i (plain q)

@@ -9,8 +9,8 @@ use Rattle.std.proofs.shelf.Tests.{and-parts, and-from, or-cases, or-right, or-
 use Rattle.table.specs.Grammar.{Production}
 use Rattle.table.specs.Kinds.{bit}
 use Rattle.sets.specs.declared.words.SetWords.{SetWords}
-use Rattle.sets.specs.Rounds.{Added-first, Added-follow, Grown, Sound, from-inside, from-left}
-use Rattle.sets.specs.Rules.{Family, Everywhere, Empty-rule, First-rule, Inside-rule, Last-rule}
+use Rattle.sets.specs.Rounds.{Added-first, Added-follow, Grown, Sound, from-left}
+use Rattle.sets.specs.Rules.{Family, run-inside, Everywhere, Empty-rule, First-rule, Inside-rule, Last-rule}
 use Rattle.sets.specs.Sets.{At, Follow}
 use Rattle.sets.specs.Words.{held}
 use Rattle.sets.proofs.Growing.{grown-then, grown-none}
@@ -32,7 +32,7 @@ module _ (g : List Production) {n : ℕ} {p : Production} (at : At g n p) (v w :
     follow = λ a k h. sound .follow a k (ap (λ ws. bit (getD ws a 0) k) (sym (b .follow)) ∙ h);
   }
 
-  pub sound-inside : Added-follow v (from-inside v (p .items)) w → Sound g (held w)
+  pub sound-inside : Added-follow v (run-inside (held v) (p .items)) w → Sound g (held w)
   sound-inside d = record {
     empty = λ a h. sound .empty a (ap (λ x. bit x a) (sym (d .empty)) ∙ h);
     first = λ a k h. sound .first a k (ap (λ ws. bit (getD ws a 0) k) (sym (d .first)) ∙ h);
@@ -63,7 +63,7 @@ module _ (p : Production) (v : SetWords) where
   met-last d a k last follows = d .follow a k ∙ or-right _ _ (and-from _ _ last follows)
 
 -- what was added inside is there
-pub met-inside : (p : Production) (v w : SetWords) → Added-follow v (from-inside v (p .items)) w → Inside-rule (held w) p
+pub met-inside : (p : Production) (v w : SetWords) → Added-follow v (run-inside (held v) (p .items)) w → Inside-rule (held w) p
 met-inside p v w d a k h = d .follow a k ∙ or-right _ _ (sym (run-inside-same v w (kept-followed v _ w d) (p .items) a k) ∙ h)
 
 -- a round so far: what the sets hold, whether they have grown, and at which places the rule is met if they have not

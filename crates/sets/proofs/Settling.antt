@@ -21,7 +21,7 @@ same-family : (s t : Family) → ((a : ℕ) → s .empty a ≡ t .empty a) → (
     → ((a k : ℕ) → s .follow a k ≡ t .follow a k) → s ≡ t
 same-family s t e f l = λ i. record { empty = λ a. e a i; first = λ a k. f a k i; follow = λ a k. l a k i }
 
-zeros : (n a : ℕ) → _≡_ {A = ℕ} (getD (replicate n 0) a 0) 0
+pub zeros : (n a : ℕ) → _≡_ {A = ℕ} (getD (replicate n 0) a 0) 0
 zeros zero a = refl
 zeros (suc n) zero = refl
 zeros (suc n) (suc a) = zeros n a

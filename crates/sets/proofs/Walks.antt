@@ -1,6 +1,6 @@
 -- What is told of a run while it is walked from the front, or from the back. Assumes nothing.
 use mathlib.Core.Path.{_≡_, refl, sym, subst, ap, ap₂, _∙_}
-use mathlib.Core.Bool.{Bool, true, false, _&&_, _||_, or-false}
+use mathlib.Core.Bool.{true, false, _&&_, _||_, or-assoc, or-false}
 use mathlib.Core.List.{List, [], _∷_}
 use Prim.Native.Nat.{ℕ, _+_, _-_, _*_, _%_, _^_, _<_, _≤_}
 use native.Mathlib.Omega.{arith}
@@ -33,10 +33,6 @@ pub record Walked (s : Family) (is : List Item) (kinds : ℕ) (rest : List Item)
   pub empty : run-empty s is ≡ run-empty s rest
   pub first : (k : ℕ) → run-first s is k ≡ (bit kinds k || run-first s rest k)
 
-or-more : (x y z : Bool) → (x || (y || z)) ≡ ((x || y) || z)
-or-more true y z = refl
-or-more false y z = refl
-
 module _ (s : Family) (is : List Item) where
   pub walked-none : Walked s is 0 is
   walked-none = record { empty = refl; first = λ k. ap (λ b. b || run-first s is k) (sym (bit-zero k)) }
@@ -56,7 +52,7 @@ module _ (s : Family) (is : List Item) where
     empty = w .empty ∙ ap (λ b. b && run-empty s rest) e;
     first = λ k.
         w .first k ∙ ap (λ b. bit kinds k || (s .first a k || (b && run-first s rest k))) e
-        ∙ or-more (bit kinds k) (s .first a k) (run-first s rest k)
+        ∙ sym (or-assoc (bit kinds k) (s .first a k) (run-first s rest k))
         ∙ ap (λ b. b || run-first s rest k) (ap (λ b. bit kinds k || b) (sym (first k)) ∙ sym (bit-or kinds word k));
   }
 

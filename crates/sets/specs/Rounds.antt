@@ -10,7 +10,7 @@ use Rattle.std.specs.shelf.Lists.{sum}
 use Rattle.table.specs.declared.drafts.Item.{Item}
 use Rattle.table.specs.Grammar.{Production}
 use Rattle.sets.specs.declared.words.SetWords.{SetWords}
-use Rattle.sets.specs.Rules.{Family, run-empty, run-first, run-inside, run-last}
+use Rattle.sets.specs.Rules.{Family, run-empty, run-first, run-last}
 use Rattle.sets.specs.Sets.{Follow, Can-be-empty, Can-begin, end-mark}
 use Rattle.sets.specs.Words.{held}
 
@@ -46,10 +46,6 @@ pub record Added-follow (v : SetWords) (by : ℕ → ℕ → Bool) (w : SetWords
   pub empty : w .empty ≡ v .empty
   pub first : w .first ≡ v .first
   pub follow : (a k : ℕ) → held w .follow a k ≡ (held v .follow a k || by a k)
-
--- what the items after each nonterminal can begin with
-abbrev pub from-inside : SetWords → List Item → ℕ → ℕ → Bool
-from-inside v is a k = run-inside (held v) is a k
 
 -- what can follow the left side, at each nonterminal after which all items can be empty
 abbrev pub from-left : SetWords → ℕ → List Item → ℕ → ℕ → Bool

@@ -44,11 +44,6 @@ run-last s (Kind j ∷ is) a = run-last s is a
 run-last s (Nonterminal b o ∷ is) a = (eqb b a && run-empty s is) || run-last s is a
 run-last s (Check o ∷ is) a = run-last s is a
 
--- with kind k in sight, a production may be the one to predict: its items can begin with it, or they can be empty and it can follow
--- the left side
-abbrev pub run-predict : Family → Production → ℕ → Bool
-run-predict s p k = run-first s (p .items) k || (run-empty s (p .items) && s .follow (p .left) k)
-
 -- a production whose items can be empty makes its left side one that can
 abbrev pub Empty-rule : Family → Production → Type 0
 Empty-rule s p = run-empty s (p .items) ≡ true → s .empty (p .left) ≡ true

@@ -33,7 +33,8 @@ impl SetWords {
         grown
     }
 
-    // One round, from the last production to the first, since a table mostly names a nonterminal before it tells what it is.
+    // One round, from the last production to the first, since a table mostly names a nonterminal before it tells what it is; tells
+    // whether it added something.
     fn first_round(&mut self, productions: &[Production]) -> bool
         requires { ⌜ Small (map plain (now productions)) ⌝ }
         ensures sound { λ _. ⌜ (Sound (map plain (now (productions .entry))) (held (now (self .entry))) → Sound (map plain (now (productions .entry))) (held (now (self .exit)))) ⌝ }

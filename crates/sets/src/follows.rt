@@ -7,8 +7,8 @@ ghost use Prim.Native.Nat.{_<_};
 ghost use Rattle.std.specs.shelf.Lists.{All};
 ghost use Rattle.table.specs.Grammar.{plain};
 ghost use Rattle.sets.specs.Bounds.{Small-item, Small};
-ghost use Rattle.sets.specs.Rounds.{Added-follow, Grown, Kept, Sound, from-inside, from-left};
-ghost use Rattle.sets.specs.Rules.{Everywhere, Inside-rule, Last-rule};
+ghost use Rattle.sets.specs.Rounds.{Added-follow, Grown, Kept, Sound, from-left};
+ghost use Rattle.sets.specs.Rules.{run-inside, Everywhere, Inside-rule, Last-rule};
 ghost use Rattle.sets.specs.Words.{held};
 use crate::words::SetWords;
 use table::drafts::Item;
@@ -18,7 +18,7 @@ impl SetWords {
     // Adds to the Follow set of each nonterminal of the items what those after it can begin with.
     fn add_inside(&mut self, items: &[Item])
         requires { ⌜ All Small-item (now items) ⌝ }
-        ensures { λ _. ⌜ Added-follow (now (self .entry)) (from-inside (now (self .entry)) (now (items .entry))) (now (self .exit)) ⌝ }
+        ensures { λ _. ⌜ Added-follow (now (self .entry)) (run-inside (held (now (self .entry))) (now (items .entry))) (now (self .exit)) ⌝ }
     {
         let mut after = 0;
         for i in (0..items.len()).rev() {
@@ -75,7 +75,7 @@ impl SetWords {
         }
     }
 
-    // One round of adding what can follow the left side.
+    // One round of adding what can follow the left sides; tells whether it added something.
     fn last_round(&mut self, productions: &[Production]) -> bool
         requires { ⌜ Small (map plain (now productions)) ⌝ }
         ensures sound { λ _. ⌜ (Sound (map plain (now (productions .entry))) (held (now (self .entry))) → Sound (map plain (now (productions .entry))) (held (now (self .exit)))) ⌝ }

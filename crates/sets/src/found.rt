@@ -8,8 +8,8 @@ ghost use Rattle.table.specs.Grammar.{grammar, plain};
 ghost use Rattle.table.specs.Kinds.{bit, has};
 ghost use Rattle.sets.specs.Bounds.{Small, Small-production};
 ghost use Rattle.sets.specs.Rounds.{beginning};
-ghost use Rattle.sets.specs.Rules.{Defined, Smallest, run-predict};
-ghost use Rattle.sets.specs.Words.{held, Predicted};
+ghost use Rattle.sets.specs.Rules.{Defined, Smallest};
+ghost use Rattle.sets.specs.Words.{held, run-predict, Predicted};
 use crate::words::PredictWords;
 use crate::words::SetWords;
 use table::drafts::Production;
@@ -95,7 +95,8 @@ impl SetWords {
     }
 }
 
-// Writes the Predict set of each production of the table into its word; the words past the last production stay.
+// Writes the Predict set of each production of the table into its word; the words past the last production stay. The sets are found where
+// they stand, since a function that gives them back copies them.
 pub fn write_predicts(table: &Table, words: &mut [u64; 126])
     ensures written { λ _. ⌜ Predicted (grammar (now (table .entry) .draft)) (now (words .exit)) ⌝ }
     ensures kept { λ _. ⌜ ((n : ℕ) → length (grammar (now (table .entry) .draft)) ≤ n → getD (now (words .exit)) n 0 ≡ getD (now (words .entry)) n 0) ⌝ }
@@ -109,9 +110,10 @@ pub fn write_predicts(table: &Table, words: &mut [u64; 126])
 }
 
 impl PredictWords {
-    // The Predict sets of the table's productions.
+    // The Predict sets of the table's productions; past the last production, none.
     pub fn of(table: &Table) -> PredictWords
-        ensures { λ r. ⌜ Predicted (grammar (now (table .entry) .draft)) (r .words) ⌝ }
+        ensures predicted { λ r. ⌜ Predicted (grammar (now (table .entry) .draft)) (r .words) ⌝ }
+        ensures past { λ r. ⌜ ((n : ℕ) → length (grammar (now (table .entry) .draft)) ≤ n → getD (r .words) n 0 ≡ 0) ⌝ }
     {
         let mut words = [0; 126];
         write_predicts(table, &mut words);

@@ -1,4 +1,4 @@
 use Rattle.analysis.proofs.passing.pass.Needs as need
 
 pub ghost-result : need.ghost-result
-ghost-result g c = (∣ c .of-predicts .ensures ∣₁, tt)
+ghost-result g c = (∣ c .of-predicts .ensures .predicted ∣₁, tt)

@@ -6,12 +6,11 @@ use lib.Bits.{bitAnd, and-zero-r}
 use lib.ListN.{getD}
 use Rattle.std.proofs.shelf.Lists.{length-map}
 use Rattle.table.specs.Grammar.{plain}
-use Rattle.sets.proofs.Bits.{bit-taken}
 use Rattle.sets.proofs.Predicting.{at-below, at-listed}
 use Rattle.analysis.specs.Answers.{All-known}
 use Rattle.analysis.proofs.Asking.{none-known}
 use Rattle.analysis.proofs.Searching.{none-yet, next-a, next-b, next-k, next-i, next-j, one-never, other-never, left-apart, both-answer, rows-apart, found, kind-none, kind-common, common-none, kind-below, none-found}
-use Rattle.analysis.proofs.Words.{bit-clear, bit-unset, bit-found}
+use Rattle.analysis.proofs.Words.{bit-left, bit-taken}
 use Rattle.analysis.proofs.search.first_clash.Needs as need
 use Rattle.analysis.proofs.search.first_clash.Needs.{then-common-eq0·by·then-common-eq0, then-common-eq0·by·else-common-eq0·then-first-second}
 use Rattle.analysis.proofs.search.first_clash.Needs.{else-loop-b-test, then-loop-b-test·else-common-eq0·else-first-second·then-not-ever}
@@ -106,11 +105,11 @@ loop-b-again-then-apart g c =
           (c .loop-b .inv .2),
     )
 
-pub loop-kind-again-then-common-kind-eq0 : need.loop-kind-again-then-common-kind-eq0
-loop-kind-again-then-common-kind-eq0 g c = (
+pub loop-kind-again-then-common-kind-ne1 : need.loop-kind-again-then-common-kind-ne1
+loop-kind-again-then-common-kind-ne1 g c = (
   c .loop-kind .inv .0,
   next-k _ _ (c .search .a) (c .loop-b .b) (c .loop-kind .kind)
-      (λ i j clash. bit-clear _ (c .loop-kind .kind) (c .if-common-kind-eq0 .taken) (kind-common _ _ (c .args .kinds .now) (c .pre .contested) clash))
+      (λ i j clash. bit-left _ (c .loop-kind .kind) (c .if-common-kind-ne1 .taken) (kind-common _ _ (c .args .kinds .now) (c .pre .contested) clash))
       (c .loop-kind .inv .1),
 )
 
@@ -122,7 +121,7 @@ loop-word-again g c =
     let other = c .ever-in-loop-b .ensures .told (c .if-not-ever-2 .left) in (
       c .loop-word .inv .0,
       next-j _ _ (c .search .a) (c .loop-b .b) (c .loop-kind .kind) (c .loop-inherited .inherited) (c .loop-word .word)
-          (λ clash. bit-unset _ (c .loop-word .word) (c .if-words-word-eq1 .left)
+          (λ clash. bit-left _ (c .loop-word .word) (c .if-words-word-eq1 .left)
           (both-answer _ _ (c .search .a) (c .loop-b .b) _ _ one-at other-at _ _ one other clash))
           (c .loop-word .inv .1),
     )
@@ -196,7 +195,7 @@ returns-then-words-word-eq1 g c =
       found _ _ (c .search .a) (c .loop-b .b) _ _ one-at other-at _ _ one other (c .args .kinds .now) (c .pre .contested)
           (omega (arith, c .loop-b .kept .b))
           (c .if-first-second .left)
-          (bit-found _ (c .loop-kind .kind) (c .if-common-kind-eq0 .left))
+          (bit-taken _ (c .loop-kind .kind) (c .if-common-kind-ne1 .left))
           (bit-taken _ (c .loop-word .word) (c .if-words-word-eq1 .taken))
           (omega (arith, c .loop-inherited-test .taken, c .classes-classes .ensures))
           (elim (c .if-kind-eq63 .came) [

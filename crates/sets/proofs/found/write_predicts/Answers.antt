@@ -10,14 +10,14 @@ use Rattle.table.specs.Grammar.{grammar, plain}
 use Rattle.sets.specs.Rules.{Defined, Smallest}
 use Rattle.sets.specs.Words.{held}
 use Rattle.sets.proofs.Limits.{small-at}
-use Rattle.sets.proofs.Predicting.{at-plain, told-more, told-all}
+use Rattle.sets.proofs.Predicting.{at-plain, written-more, written-all}
 use Rattle.sets.proofs.found.write_predicts.Needs as need
 
 pub settle-requires : need.settle-requires
 settle-requires c κs = (c .listed-productions .ensures .small, c .start-sets .ensures)
 
 pub loop-n-holds : need.loop-n-holds
-loop-n-holds c = record { long = search needs; kept = λ m h. refl; words-told = λ m p h at k. let no : ⊥ = omega arith in absurd no }
+loop-n-holds c = record { long = search needs; kept = λ m h. refl; predicts = λ m p h at k. let no : ⊥ = omega arith in absurd no }
 
 pub predict-requires : need.predict-requires
 predict-requires c κs =
@@ -26,7 +26,7 @@ predict-requires c κs =
 
 pub loop-n-again : need.loop-n-again
 loop-n-again c =
-    told-more _ _ _ (c .loop-n .words) (c .loop-n .n) _ (plain (c .index-productions-n .result)) (search needs)
+    written-more _ _ _ (c .loop-n .words) (c .loop-n .n) _ (plain (c .index-productions-n .result)) (search needs)
     (λ p at. at-plain (vec-items (c .args .table .now .draft .productions)) (c .loop-n .n) (c .index-productions-n .result) p at
     (c .index-productions-n .is ∙ ap (λ ps. getD ps (c .loop-n .n) (c .index-productions-n .result)) (c .listed-productions .ensures .value)))
     (c .predict .ensures) (c .loop-n .inv)
@@ -37,7 +37,7 @@ returns c =
     let all : length (grammar (c .args .table .now .draft)) ≤ c .loop-n .n =
     omega (arith, c .loop-n-test .left, ap length (c .listed-productions .ensures .value), length-map (vec-items (c .args .table .now .draft .productions)) plain) in
     record {
-      written = told-all _ sets _ (c .loop-n .words) (c .loop-n .n)
+      written = written-all _ sets _ (c .loop-n .words) (c .loop-n .n)
           (subst (λ ps. Defined (map plain ps) sets) (c .listed-productions .ensures .value) (c .settle .ensures .defined))
           (subst (λ ps. Smallest (map plain ps) sets) (c .listed-productions .ensures .value) (c .settle .ensures .smallest) .0) all (c .loop-n .inv);
       kept = λ m past. c .loop-n .inv .kept m

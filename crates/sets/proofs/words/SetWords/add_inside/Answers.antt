@@ -6,7 +6,9 @@ use lib.Bits.{bitOr}
 use lib.ListN.{getD, length}
 use Rattle.std.proofs.shelf.Elements.{all-getD}
 use Rattle.sets.specs.Bounds.{Small-item}
-use Rattle.sets.specs.Rounds.{Added-follow, from-inside}
+use Rattle.sets.specs.Rounds.{Added-follow}
+use Rattle.sets.specs.Rules.{run-inside}
+use Rattle.sets.specs.Words.{held}
 use Rattle.sets.proofs.Bits.{bit-zero}
 use Rattle.sets.proofs.Following.{Done-inside, joined-in, followed-none, done-kind, done-check, done-past, done-at}
 use Rattle.sets.proofs.Walks.{at-item, at-front, at-back}
@@ -55,5 +57,5 @@ loop-i-again c =
 
 pub returns : need.returns
 returns c =
-    at-front (λ rest. Added-follow (c .args .self .now) (from-inside (c .args .self .now) rest) (c .loop-i .self)) (c .args .items .now) (c .loop-i .i)
+    at-front (λ rest. Added-follow (c .args .self .now) (run-inside (held (c .args .self .now)) rest) (c .loop-i .self)) (c .args .items .now) (c .loop-i .i)
     (c .loop-i-test .left) (c .loop-i .inv .followed)

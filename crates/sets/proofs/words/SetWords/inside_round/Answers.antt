@@ -7,8 +7,8 @@ use Rattle.std.proofs.shelf.Lists.{length-map}
 use Rattle.std.proofs.shelf.Tests.{cases-eq}
 use Rattle.table.specs.Grammar.{plain}
 use Rattle.sets.specs.Bounds.{Small-item}
-use Rattle.sets.specs.Rounds.{Added-follow, from-inside}
-use Rattle.sets.specs.Rules.{Inside-rule}
+use Rattle.sets.specs.Rounds.{Added-follow}
+use Rattle.sets.specs.Rules.{run-inside, Inside-rule}
 use Rattle.sets.specs.Sets.{At}
 use Rattle.sets.specs.Words.{held}
 use Rattle.sets.proofs.Limits.{small-at}
@@ -32,7 +32,7 @@ loop-production-again c =
     let here = c .production-item .result in
     let v = c .loop-production .self in
     let w = c .add-inside .last .self in
-    let d = subst (λ is. Added-follow v (from-inside v is) w) (c .deref .ensures .value) (c .add-inside .ensures) in
+    let d = subst (λ is. Added-follow v (run-inside (held v) is) w) (c .deref .ensures .value) (c .add-inside .ensures) in
     let kept = kept-followed v _ w d in (
       sound-inside _ (at-listed ps i here (c .loop-production-test .taken) (c .production-item .is)) v w (c .loop-production .inv .0) d,
       kept-then _ v w (c .loop-production .inv .1) kept,
