@@ -74,15 +74,22 @@ fn halves() -> String {
     wide("3", [HALF, HALF << 31].into_iter().flat_map(|sight| (1..=63).map(move |test| (test, sight))))
 }
 
-/// Nonterminals in a chain, each of which begins with the next and ends with it.
-fn deep() -> String {
+/// Nonterminals in a chain, each of which begins with the next and ends with it. The productions stand in the order of the chain, or
+/// against it.
+fn chain(against: bool) -> String {
     const LAST: usize = 62;
-    let mut line = format!("1 1440 1 90 {} 63 {}", LAST + 1, 2 * LAST + 2);
+    let mut productions = Vec::new();
     for n in 0..LAST {
         let next = format!("2 {} 0 0 0", n + 1);
-        line += &format!(" {n} 0 {FULL} 0 0 0 3 {next} 1 0 {next} {n} 0 {FULL} 0 0 0 1 1 {}", n + 1);
+        productions.push(format!(" {n} 0 {FULL} 0 0 0 3 {next} 1 0 {next}"));
+        productions.push(format!(" {n} 0 {FULL} 0 0 0 1 1 {}", n + 1));
     }
-    line + &format!(" {LAST} 1 {FULL} 0 0 0 1 1 0 {LAST} 2 {FULL} 0 0 0 2 1 0 1 0")
+    productions.push(format!(" {LAST} 1 {FULL} 0 0 0 1 1 0"));
+    productions.push(format!(" {LAST} 2 {FULL} 0 0 0 2 1 0 1 0"));
+    if against {
+        productions.reverse();
+    }
+    format!("1 1440 1 90 {} 63 {}{}", LAST + 1, productions.len(), productions.concat())
 }
 
 /// A table of ordinary size: order sheets of a depot, under Minutes with the cut 90.
@@ -157,7 +164,8 @@ fn times() {
         ("worst", worst(), 200),
         ("posts", posts(), 2_000),
         ("halves", halves(), 200),
-        ("deep", deep(), 2_000),
+        ("deep", chain(false), 2_000),
+        ("against", chain(true), 2_000),
         ("ordinary", ordinary(), 20_000),
     ] {
         let bytes = format::from_decimal(&line).expect("a case");
@@ -168,6 +176,9 @@ fn times() {
     let all: Vec<(f64, f64)> = lines.map(|line| both(2_000, &line)).collect();
     let mean = |of: fn(&(f64, f64)) -> f64| all.iter().map(of).sum::<f64>() / all.len() as f64;
     print("many", (mean(|both| both.0), mean(|both| both.1)));
+    let slower: Vec<f64> = all.iter().map(|(ours, rust)| ours - rust).filter(|&more| more > 0.0).collect();
+    let most = slower.iter().copied().fold(0.0, f64::max);
+    println!("of many: {} of {} slower in Rattle, by {most:.0} ns at most", slower.len(), all.len());
 }
 
 /// Prints the verdict on every case of standard input, given in decimal numbers, on which both have to agree.
