@@ -1,4 +1,6 @@
 // The strong test, whether one word of sight decides, and the tables that pass it.
+#![tactic(auto)]
+
 mod answers;
 mod contested;
 pub mod faults;

@@ -1,4 +1,6 @@
 // The strong test of a table that is given in bytes, for the benchmark to call.
+#![tactic(auto)]
+
 mod bytes;
 mod cases;
 mod sums;

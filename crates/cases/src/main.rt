@@ -1,4 +1,6 @@
 // Answers cases of tables, domains and texts, one to a line: the first word says what is asked, and `make.py` has the format.
+#![tactic(auto)]
+
 mod domains;
 mod drafts;
 mod numbers;

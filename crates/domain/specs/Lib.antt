@@ -4,4 +4,3 @@ pub mod Minutes
 pub mod Posts
 pub mod Refusal
 pub mod Sizes
-pub mod Cuts

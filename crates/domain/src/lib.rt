@@ -1,4 +1,6 @@
 // Domains: the values that the symbols of a table carry, and the questions that a reader asks of them.
+#![tactic(auto)]
+
 ghost use Rattle.std.specs.Prelude.{◌≡◌};
 ghost use Rattle.domain.specs.Meaning.{Meaning, Lawful};
 ghost use Rattle.domain.specs.Refusal.{refusal};

@@ -1,9 +1,8 @@
 // Minutes up to a limit, told apart by cuts.
-ghost use Rattle.std.specs.Prelude.{◌≡◌, true, false, MatchResult, refl};
+ghost use Rattle.std.specs.Prelude.{◌≡◌, true, false, MatchResult};
 ghost use Rattle.domain.specs.Minutes.{minutes};
 ghost use Rattle.domain.specs.Sizes.{minutes_sized, rising};
-ghost use Rattle.std.proofs.Common.{arith};
-ghost use Rattle.domain.specs.Cuts.{cuts_within_le, few_cuts};
+ghost use Rattle.domain.proofs.Laws.{minutes_lawful};
 
 use crate::{Domain, DomainFault};
 
@@ -47,15 +46,7 @@ impl Domain for Minutes {
 
     ghost meaning = { λ d. minutes d.limit d.cuts.items };
 
-    ghost lawful = { λ d.
-        let cuts = d.cuts.items in
-        let few = few_cuts d.limit cuts d.sized in
-        record {
-          some_class = omega arith;
-          few_classes = omega arith;
-          class_within = λ v. omega (arith, cuts_within_le cuts v);
-          test_zero = λ i j. refl;
-        } };
+    ghost lawful = { λ d. minutes_lawful d.limit d.cuts.items d.sized };
 
     fn classes(&self) -> u16 {
         self.cuts.len() as u16 + 1

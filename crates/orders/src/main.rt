@@ -1,4 +1,6 @@
 // Reads a sheet from standard input with the table that the program holds, or tells of that table.
+#![tactic(auto)]
+
 use analysis::verdict::check;
 use anyhow::anyhow;
 use held::domains::held_minutes;

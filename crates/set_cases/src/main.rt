@@ -1,4 +1,6 @@
 // Reads a table with its domain from each line of standard input, and prints its sets and whether it passes.
+#![tactic(auto)]
+
 mod numbers;
 mod tables;
 mod told;

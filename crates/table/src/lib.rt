@@ -1,4 +1,6 @@
 // Tables: the productions and spellings that a depot fills in.
+#![tactic(auto)]
+
 mod conditions;
 pub mod drafts;
 pub mod faults;

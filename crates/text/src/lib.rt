@@ -1,4 +1,6 @@
 // The words of a text, with their places, kinds and numbers.
+#![tactic(auto)]
+
 pub mod cursor;
 pub mod faults;
 pub mod lexemes;

@@ -2,7 +2,7 @@
 ghost use Rattle.std.specs.Prelude.{◌≡◌, ◌^◌, true, false, MatchResult};
 ghost use Rattle.domain.specs.Posts.{posts};
 ghost use Rattle.domain.specs.Sizes.{posts_sized};
-ghost use Rattle.std.proofs.Common.{rules, arith};
+ghost use Rattle.domain.proofs.Laws.{posts_lawful};
 
 use crate::posts::{PostSet, Posts};
 use crate::{Domain, DomainFault};
@@ -32,7 +32,7 @@ impl Domain for Posts {
 
     ghost meaning = { λ d. posts d.count };
 
-    ghost lawful = { first_of (Prim.search rules, Prim.grind (arith, Self.row.coded.inj)) };
+    ghost lawful = { λ d. posts_lawful d.count d.sized };
 
     fn classes(&self) -> u16 {
         u16::from(self.sets())
