@@ -1,4 +1,5 @@
 pub mod Choose
+pub mod Laws
 pub mod Meaning
 pub mod Minutes
 pub mod Posts

@@ -2,7 +2,7 @@
 ghost use Rattle.std.specs.Prelude.{◌≡◌, true, false, MatchResult};
 ghost use Rattle.domain.specs.Minutes.{minutes};
 ghost use Rattle.domain.specs.Sizes.{minutes_sized, rising};
-ghost use Rattle.domain.proofs.Laws.{minutes_lawful};
+ghost use Rattle.domain.specs.Laws.{minutes_lawful};
 
 use crate::{Domain, DomainFault};
 

@@ -2,7 +2,7 @@
 ghost use Rattle.std.specs.Prelude.{◌≡◌, ◌^◌, true, false, MatchResult};
 ghost use Rattle.domain.specs.Posts.{posts};
 ghost use Rattle.domain.specs.Sizes.{posts_sized};
-ghost use Rattle.domain.proofs.Laws.{posts_lawful};
+ghost use Rattle.domain.specs.Laws.{posts_lawful};
 
 use crate::posts::{PostSet, Posts};
 use crate::{Domain, DomainFault};

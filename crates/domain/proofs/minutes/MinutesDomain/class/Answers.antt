@@ -2,7 +2,7 @@ use Rattle.std.proofs.Common.{◌<◌, ◌≤◌, length, get_or, vec_items, ap,
 use Rattle.std.proofs.lemmas.List.{at_drop_more, at_drop_all}
 use Rattle.std.proofs.lemmas.Bool.Decides.{nat_tests}
 use Rattle.domain.specs.Minutes.{cuts_within}
-use Rattle.domain.proofs.Laws.{cuts_within_le, few_cuts}
+use Rattle.domain.specs.Laws.{cuts_within_le, few_cuts}
 use Rattle.domain.proofs.minutes.MinutesDomain.class.Goals as goal
 
 pub overflow_add-class : goal.overflow_add-class
