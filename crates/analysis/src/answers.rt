@@ -10,8 +10,8 @@ use domain::Domain;
 
 // The classes of the word at which the test says yes, for one class of the inherited value: bit j is set for class j.
 fn row<D: Domain>(domain: &D, test: u8, inherited: u16) -> u64
-    requires { (meaning domain.now).classes.count ≤ 64 }
-    ensures { (j : ℕ) → bit result j ≡ (nat_lt j (meaning domain.now).classes.count && (meaning domain.now).classes.test test inherited j) }
+    requires { (D.meaning domain.now).classes.count ≤ 64 }
+    ensures { (j : ℕ) → bit result j ≡ (nat_lt j (D.meaning domain.now).classes.count && (D.meaning domain.now).classes.test test inherited j) }
 {
     let mut row = 0;
     let mut mark = 1;
@@ -26,9 +26,9 @@ fn row<D: Domain>(domain: &D, test: u8, inherited: u16) -> u64
 
 // Asks the test at all classes, with a row for each class of the inherited value. `false`: it never says yes.
 fn ask<D: Domain>(domain: &D, test: u8, rows: &mut [u64; 64]) -> bool
-    requires { (meaning domain.now).classes.count ≤ 64 }
-    ensures rows { Rows (meaning domain.now).classes test rows.new }
-    ensures never { result ≡ false → Never (meaning domain.now).classes test }
+    requires { (D.meaning domain.now).classes.count ≤ 64 }
+    ensures rows { Rows (D.meaning domain.now).classes test rows.new }
+    ensures never { result ≡ false → Never (D.meaning domain.now).classes test }
 {
     let mut all = 0;
     for inherited in 0..domain.classes() {
@@ -47,14 +47,14 @@ pub(crate) fn ever<D: Domain>(
     said: &mut [Said; 126],
     rows: &mut [[u64; 64]],
 ) -> bool
-    requires few { (meaning domain.now).classes.count ≤ 64 }
+    requires few { (D.meaning domain.now).classes.count ≤ 64 }
     requires placed { Placed tests.now test }
     requires room { (tests.now.count ≤ 126) × (tests.now.count ≤ length rows.old) }
-    requires known { AllKnown (meaning domain.now).classes tests.now said.old rows.old }
-    ensures never { result ≡ false → Never (meaning domain.now).classes test }
-    ensures told { result ≡ true → Told (meaning domain.now).classes tests.now rows.new test }
-    ensures kept { (other : ℕ) → Placed tests.now other → Told (meaning domain.now).classes tests.now rows.old other → Told (meaning domain.now).classes tests.now rows.new other }
-    ensures known { AllKnown (meaning domain.now).classes tests.now said.new rows.new }
+    requires known { AllKnown (D.meaning domain.now).classes tests.now said.old rows.old }
+    ensures never { result ≡ false → Never (D.meaning domain.now).classes test }
+    ensures told { result ≡ true → Told (D.meaning domain.now).classes tests.now rows.new test }
+    ensures kept { (other : ℕ) → Placed tests.now other → Told (D.meaning domain.now).classes tests.now rows.old other → Told (D.meaning domain.now).classes tests.now rows.new other }
+    ensures known { AllKnown (D.meaning domain.now).classes tests.now said.new rows.new }
 {
     let place = tests.places[test as usize] as usize;
     match said[place] {

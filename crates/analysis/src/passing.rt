@@ -10,7 +10,7 @@ use table::made::Table;
 
 // The passed table of a table and a domain that `check` found nothing against.
 pub fn pass<D: Domain>(table: Table, domain: D) -> Passed<D>
-    requires { Passes (meaning domain).classes (grammar table.draft) }
+    requires { Passes (D.meaning domain).classes (grammar table.draft) }
     ensures { (result.table ≡ table) × (result.domain ≡ domain) }
 {
     let predicts = PredictWords::of(&table);

@@ -33,12 +33,12 @@ pub(crate) fn first_clash<D: Domain>(
     tests: &Tests,
     rows: &mut [[u64; 64]],
 ) -> Option<CheckFault>
-    requires small { (meaning domain.now).classes.count ≤ 64 }
+    requires small { (D.meaning domain.now).classes.count ≤ 64 }
     requires few { length productions.now ≤ 126 }
     requires contested { Contested (map plain productions.now) kinds.now }
     requires placed { AllPlaced (map plain productions.now) kinds.now tests.now }
     requires room { tests.now.count ≤ length rows.old }
-    ensures { MatchOption result (ClashFree (meaning domain.now).classes (map plain productions.now)) (FirstClash (meaning domain.now).classes (map plain productions.now)) }
+    ensures { MatchOption result (ClashFree (D.meaning domain.now).classes (map plain productions.now)) (FirstClash (D.meaning domain.now).classes (map plain productions.now)) }
 {
     let classes = domain.classes() as u8;
     let mut said = [Said::Unasked; 126];

@@ -16,8 +16,8 @@ use table::made::Table;
 // The first clash of the table's productions. There is room for the rows of 2, 8 or 126 tests, the last as many as a table can have
 // productions.
 fn clash<D: Domain>(table: &Table, domain: &D) -> Option<CheckFault>
-    requires { (meaning domain.now).classes.count ≤ 64 }
-    ensures { MatchOption result (ClashFree (meaning domain.now).classes (grammar table.now.draft)) (FirstClash (meaning domain.now).classes (grammar table.now.draft)) }
+    requires { (D.meaning domain.now).classes.count ≤ 64 }
+    ensures { MatchOption result (ClashFree (D.meaning domain.now).classes (grammar table.now.draft)) (FirstClash (D.meaning domain.now).classes (grammar table.now.draft)) }
 {
     let productions = listed(table);
     let mut kinds = [0; 126];
@@ -33,7 +33,7 @@ fn clash<D: Domain>(table: &Table, domain: &D) -> Option<CheckFault>
 
 // Whether one word of sight decides between any two productions of the table: nothing, or why not.
 pub fn check<D: Domain>(table: &Table, domain: &D) -> Result<(), CheckFault>
-    ensures { MatchResult result (λ _. Passes (meaning domain.now).classes (grammar table.now.draft)) (λ f. Refused (meaning domain.now).classes (grammar table.now.draft) (refusal f) (values f)) }
+    ensures { MatchResult result (λ _. Passes (D.meaning domain.now).classes (grammar table.now.draft)) (λ f. Refused (D.meaning domain.now).classes (grammar table.now.draft) (refusal f) (values f)) }
 {
     let classes = domain.classes();
     if classes > 64 {

@@ -17,7 +17,7 @@ pub fn sheet_line<D: Domain>(
     domain: &D,
     heap: Global,
 ) -> Result<String, AllocError>
-    ensures { IfOk result (λ l. string_bytes l ≡ told_line (sheet_kinds (D.Domain.meaning domain.now) (spellings table.now.draft) text.now)) }
+    ensures { IfOk result (λ l. string_bytes l ≡ told_line (sheet_kinds (D.meaning domain.now) (spellings table.now.draft) text.now)) }
 {
     match kinds(text, table, domain, heap) {
         Ok(kinds) => words_line(&kinds, heap),

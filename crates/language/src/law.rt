@@ -6,7 +6,7 @@ use domain::Domain;
 
 // Names the law for the domain's meaning; it computes nothing.
 pub fn one_language<D: Domain>(domain: &D)
-    ensures { Law (meaning domain.now) }
+    ensures { Law (D.meaning domain.now) }
 {}
 
 // Names the theorem that every made table is one that the law speaks of; it computes nothing.

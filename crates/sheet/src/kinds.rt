@@ -34,7 +34,7 @@ pub fn kinds<D: Domain>(
     domain: &D,
     heap: Global,
 ) -> Result<Vec<u8>, KindsError>
-    ensures { Told (sheet_kinds (D.Domain.meaning domain.now) (spellings table.now.draft) text.now) result }
+    ensures { Told (sheet_kinds (D.meaning domain.now) (spellings table.now.draft) text.now) result }
 {
     if let Err(fault) = check_length(text) {
         return Err(KindsError::Denied(Denial {

@@ -16,7 +16,7 @@ pub fn tokenize<D: Domain>(
     table: &Table,
     domain: &D,
 ) -> Result<Token<D::Value>, Fault>
-    ensures { result ≡ token (D.Domain.meaning domain.now) (spellings table.now.draft) (seen word.now) }
+    ensures { result ≡ token (D.meaning domain.now) (spellings table.now.draft) (seen word.now) }
 {
     let lexeme = word.lexeme(table)?;
     let value = lexeme.value(domain)?;

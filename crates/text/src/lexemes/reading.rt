@@ -63,7 +63,7 @@ fn number(digits: &[u8]) -> Result<Lexeme, TextFault>
 impl Lexeme {
     // The value that the domain gives the number.
     pub fn value<D: Domain>(self, domain: &D) -> Result<D::Value, ValueFault>
-        ensures { result ≡ ok_or ((D.Domain.meaning domain.now).number self.number) ValueFault.NoValue }
+        ensures { result ≡ ok_or ((D.meaning domain.now).number self.number) ValueFault.NoValue }
     {
         domain.number(self.number).ok_or(ValueFault::NoValue)
     }

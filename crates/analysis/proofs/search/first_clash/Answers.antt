@@ -128,8 +128,8 @@ loop-inherited-preserved g c = (
   next_i _ _ c.search.a c.loop-b.b c.loop-kind.kind c.loop-inherited.inherited
       (λ j clash. c.loop-word.invariant.1 j
       (elim c.if-kind-eq63.branch [
-        | then-kind-eq63 w ↦ omega (arith, c.loop-word-test.false, w.word·end-is, clash.end_class w.if-kind-eq63.true)
-        | else-kind-eq63 w ↦ omega (arith, c.loop-word-test.false, w.word·end-is, clash.word_class, c.classes-classes.ensures)
+        | then-kind-eq63 w ↦ omega (arith, c.loop-word-test.false, w.word-end-is, clash.end_class w.if-kind-eq63.true)
+        | else-kind-eq63 w ↦ omega (arith, c.loop-word-test.false, w.word-end-is, clash.word_class, c.classes-classes.ensures)
       ])
       clash)
       c.loop-inherited.invariant.1,
@@ -195,11 +195,11 @@ returns-then-words-word-eq1 g c =
           (bit_taken _ c.loop-word.word c.if-words-word-eq1.true)
           (omega (arith, c.loop-inherited-test.true, c.classes-classes.ensures))
           (elim c.if-kind-eq63.branch [
-            | then-kind-eq63 w ↦ omega (arith, c.loop-word-test.true, w.word·end-is, c.loop-inherited-test.true, c.classes-classes.ensures)
-            | else-kind-eq63 w ↦ omega (arith, c.loop-word-test.true, w.word·end-is, c.classes-classes.ensures)
+            | then-kind-eq63 w ↦ omega (arith, c.loop-word-test.true, w.word-end-is, c.loop-inherited-test.true, c.classes-classes.ensures)
+            | else-kind-eq63 w ↦ omega (arith, c.loop-word-test.true, w.word-end-is, c.classes-classes.ensures)
           ])
           (elim c.if-kind-eq63.branch [
-            | then-kind-eq63 w ↦ (λ e. omega (arith, c.loop-word-test.true, w.word·end-is))
+            | then-kind-eq63 w ↦ (λ e. omega (arith, c.loop-word-test.true, w.word-end-is))
             | else-kind-eq63 w ↦ (λ e. absurd (w.if-kind-eq63.false e))
           ]),
       record {
