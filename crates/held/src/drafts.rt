@@ -13,7 +13,7 @@ const INHERIT: Operation = Operation {
 };
 
 fn production(left: u8, sight: KindSet, items: Vec<Item>) -> Production
-    ensures* { λ r. ⌜ r ≡ record { left = left; test = 0; sight = sight; items = items; result = record { number = 0; first = 0; second = 0 } } ⌝ }
+    ensures { result ≡ record { left = left; test = 0; sight = sight; items = items; result = record { number = 0; first = 0; second = 0 } } }
 {
     Production {
         left,
