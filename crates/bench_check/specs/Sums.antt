@@ -1,6 +1,7 @@
 -- A domain of 64 classes whose test n says yes where two classes add up to n - 1. Assumes nothing.
 use Rattle.std.specs.Prelude.{ℕ, ◌+◌, ◌%◌, true, ◌||◌, None, ◌==◌}
-use Rattle.domain.specs.Meaning.{Meaning}
+use Rattle.std.proofs.Common.{rules}
+use Rattle.domain.specs.Meaning.{Meaning, Lawful}
 
 abbrev pub sums : Meaning ℕ
 sums = record {
@@ -11,3 +12,6 @@ sums = record {
   check = λ number first second. true;
   number = λ number. None;
 }
+
+pub sums_lawful : Lawful sums
+sums_lawful = search rules

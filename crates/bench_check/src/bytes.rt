@@ -1,8 +1,7 @@
 // The bytes of a case, one after the other.
-
-// Bytes that are still to be read.
 use anyhow::anyhow;
 
+// Bytes that are still to be read.
 #[derive(Drop)]
 pub(crate) struct Bytes<'a> {
     bytes: &'a [u8],

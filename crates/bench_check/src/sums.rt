@@ -1,6 +1,5 @@
 // A domain with many tests that keep productions apart.
-ghost use Rattle.bench_check.specs.Sums.{sums};
-ghost use Rattle.std.proofs.Common.{rules};
+ghost use Rattle.bench_check.specs.Sums.{sums, sums_lawful};
 
 use domain::Domain;
 
@@ -14,7 +13,7 @@ impl Domain for Sums {
 
     ghost meaning = { λ _. sums };
 
-    ghost lawful = { Prim.search rules };
+    ghost lawful = { λ _. sums_lawful };
 
     fn classes(&self) -> u16 {
         64

@@ -19,23 +19,15 @@ enum Question {
 }
 
 fn read_question(cases: &mut Cursor<'_>) -> Result<Question, CaseError> {
-    let asked = next_letters(cases)?;
-    if asked == b"classes" {
-        Ok(Question::Classes)
-    } else if asked == b"opening" {
-        Ok(Question::Opening)
-    } else if asked == b"class" {
-        Ok(Question::Class(number16(cases)?))
-    } else if asked == b"rule" {
-        Ok(Question::Rule(number8(cases)?, number16(cases)?, number16(cases)?))
-    } else if asked == b"check" {
-        Ok(Question::Check(number8(cases)?, number16(cases)?, number16(cases)?))
-    } else if asked == b"test" {
-        Ok(Question::Test(number8(cases)?, number16(cases)?, number16(cases)?))
-    } else if asked == b"number" {
-        Ok(Question::Number(number16(cases)?))
-    } else {
-        Err(CaseError::Malformed)
+    match next_letters(cases)? {
+        b"classes" => Ok(Question::Classes),
+        b"opening" => Ok(Question::Opening),
+        b"class" => Ok(Question::Class(number16(cases)?)),
+        b"rule" => Ok(Question::Rule(number8(cases)?, number16(cases)?, number16(cases)?)),
+        b"check" => Ok(Question::Check(number8(cases)?, number16(cases)?, number16(cases)?)),
+        b"test" => Ok(Question::Test(number8(cases)?, number16(cases)?, number16(cases)?)),
+        b"number" => Ok(Question::Number(number16(cases)?)),
+        _ => Err(CaseError::Malformed),
     }
 }
 

@@ -20,21 +20,14 @@ use texts::{blank_case, sheet_case, text_case};
 const MOST_CASES: u32 = 100_000;
 
 fn answer(word: &Word<'_>, cases: &mut Cursor<'_>, heap: Global) -> Result<String, CaseError> {
-    let asked = letters(word);
-    if asked == b"minutes" {
-        minutes_case(cases, heap)
-    } else if asked == b"posts" {
-        posts_case(cases, heap)
-    } else if asked == b"draft" {
-        draft_case(cases, heap)
-    } else if asked == b"text" {
-        text_case(cases, heap)
-    } else if asked == b"sheet" {
-        sheet_case(cases, heap)
-    } else if asked == b"blank" {
-        blank_case(cases, heap)
-    } else {
-        Err(CaseError::Malformed)
+    match letters(word) {
+        b"minutes" => minutes_case(cases, heap),
+        b"posts" => posts_case(cases, heap),
+        b"draft" => draft_case(cases, heap),
+        b"text" => text_case(cases, heap),
+        b"sheet" => sheet_case(cases, heap),
+        b"blank" => blank_case(cases, heap),
+        _ => Err(CaseError::Malformed),
     }
 }
 
