@@ -1,7 +1,7 @@
 -- The kinds and nonterminals of a made table fit words of 64 bits. Assumes nothing.
 use Rattle.std.proofs.Common.{◌≡◌, ℕ, ◌≤◌, true, ◌&&◌, ltb, leb, List, [], ◌∷◌, map, length, arith}
 use Rattle.std.specs.Int.{is_in_range}
-use Rattle.std.specs.List.{list_all, AllByRecursion as All}
+use Rattle.std.specs.List.{list_all, AllByRecursion}
 use Rattle.std.proofs.lemmas.Bool.{and_parts, leb-true, ltb-true}
 use Rattle.table.specs.declared.drafts.Draft.{Draft}
 use Rattle.table.specs.declared.drafts.Item.{Item}
@@ -14,7 +14,7 @@ use Rattle.table.proofs.Sound.{sound_keeps}
 use Rattle.sets.specs.Bounds.{SmallItem, Small}
 
 module _ (kinds nonterminals : ℕ) (few_kinds : kinds ≤ 63) (few_nonterminals : nonterminals ≤ 64) where
-  small_items : (is : List Item) → list_all (symbol_fits kinds nonterminals) is ≡ true → All SmallItem is
+  small_items : (is : List Item) → list_all (symbol_fits kinds nonterminals) is ≡ true → AllByRecursion SmallItem is
   small_items [] h = tt
   small_items (Kind k ∷ is) h =
       let both = and_parts (ltb k kinds) _ h in (omega (arith, ltb-true k kinds both.0), small_items is both.1)

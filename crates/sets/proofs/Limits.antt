@@ -1,24 +1,24 @@
 -- The kinds in the sets are below 64. Assumes nothing.
 use Rattle.std.proofs.Common.{◌≡◌, ℕ, zero, suc, ◌<◌, List, [], ◌∷◌, map, length, get_or, sym, subst, arith, lit<}
-use Rattle.std.specs.List.{AllByRecursion as All}
+use Rattle.std.specs.List.{AllByRecursion}
 use Rattle.table.specs.declared.drafts.Item.{Item}
 use Rattle.table.specs.declared.drafts.Production as filled
 use Rattle.table.specs.Grammar.{Production, plain}
 use Rattle.sets.specs.Bounds.{SmallItem, SmallProduction, Small}
 use Rattle.sets.specs.Sets.{At, Stands, First, Follow}
 
-pub all_at : {X : Type 0} (P : X → Type 0) {xs : List X} {n : ℕ} {x : X} → At xs n x → All P xs → P x
+pub all_at : {X : Type 0} (P : X → Type 0) {xs : List X} {n : ℕ} {x : X} → At xs n x → AllByRecursion P xs → P x
 all_at P At.here all = all.0
 all_at P (At.later at) all = all_at P at all.1
 
 module _ (g : List Production) (small : Small g) where
-  pub first_below : {is : List Item} {k : ℕ} → First g is k → All SmallItem is → k < 64
+  pub first_below : {is : List Item} {k : ℕ} → First g is k → AllByRecursion SmallItem is → k < 64
   first_below First.here all = all.0
   first_below (First.past_check f) all = first_below f all.1
   first_below (First.inside at left f) all = first_below f (all_at SmallProduction at small).1
   first_below (First.past_nonterminal at left e f) all = first_below f all.1
 
-  after_small : {is : List Item} {a : ℕ} {post : List Item} → Stands is a post → All SmallItem is → All SmallItem post
+  after_small : {is : List Item} {a : ℕ} {post : List Item} → Stands is a post → AllByRecursion SmallItem is → AllByRecursion SmallItem post
   after_small Stands.here all = all.1
   after_small (Stands.later s) all = after_small s all.1
 

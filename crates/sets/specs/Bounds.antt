@@ -1,6 +1,6 @@
 -- Kinds and nonterminals that fit words of 64 bits, as those of every table do. Assumes nothing.
 use Rattle.std.specs.Prelude.{◌<◌, List}
-use Rattle.std.specs.List.{AllByRecursion as All}
+use Rattle.std.specs.List.{AllByRecursion}
 use Rattle.table.specs.declared.drafts.Item.{Item}
 use Rattle.table.specs.declared.drafts.Item.TheVariants.{Kind, Nonterminal, Check}
 use Rattle.table.specs.Grammar.{Production}
@@ -11,7 +11,7 @@ SmallItem (Nonterminal a o) = a < 64
 SmallItem (Check o) = Unit {0}
 
 abbrev pub SmallProduction : Production → Type 0
-SmallProduction p = (p.left < 64) × All SmallItem p.items
+SmallProduction p = (p.left < 64) × AllByRecursion SmallItem p.items
 
 abbrev pub Small : List Production → Type 0
-Small g = All SmallProduction g
+Small g = AllByRecursion SmallProduction g

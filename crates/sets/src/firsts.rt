@@ -1,6 +1,6 @@
 // Which nonterminals can be empty, and their First sets: round after round over the productions, until nothing is new.
 ghost use Rattle.std.specs.Prelude.{◌≡◌, ◌<◌, false, map};
-ghost use Rattle.std.specs.List.{AllByRecursion as All};
+ghost use Rattle.std.specs.List.{AllByRecursion};
 ghost use Rattle.table.specs.Grammar.{plain};
 ghost use Rattle.sets.specs.Bounds.{SmallItem, Small};
 ghost use Rattle.sets.specs.Rounds.{AddedFirst, Grown, Sound};
@@ -13,7 +13,7 @@ use table::drafts::{Item, Production};
 impl SetWords {
     // Adds what the rules give at a production of this left side and these items, and tells whether that was new.
     fn add_first(&mut self, left: u8, items: &[Item]) -> bool
-        requires { (left < 64) × (All SmallItem items.now) }
+        requires { (left < 64) × (AllByRecursion SmallItem items.now) }
         ensures added { AddedFirst self.old left items.now self.new }
         ensures grown { Grown result self.old self.new }
     {

@@ -1,7 +1,7 @@
 // The Follow sets: what can begin the items after a nonterminal is added once, and what can follow a left side round after round,
 // until nothing is new.
 ghost use Rattle.std.specs.Prelude.{◌≡◌, ◌<◌, false, map};
-ghost use Rattle.std.specs.List.{AllByRecursion as All};
+ghost use Rattle.std.specs.List.{AllByRecursion};
 ghost use Rattle.table.specs.Grammar.{plain};
 ghost use Rattle.sets.specs.Bounds.{SmallItem, Small};
 ghost use Rattle.sets.specs.Rounds.{AddedFollow, Grown, Kept, Sound, from_left};
@@ -14,7 +14,7 @@ use table::drafts::{Item, Production};
 impl SetWords {
     // Adds to the Follow set of each nonterminal of the items what those after it can begin with.
     fn add_inside(&mut self, items: &[Item])
-        requires { All SmallItem items.now }
+        requires { AllByRecursion SmallItem items.now }
         ensures { AddedFollow self.old (run_inside (held self.old) items.now) self.new }
     {
         let mut after = 0;
@@ -37,7 +37,7 @@ impl SetWords {
 
     // Adds to the Follow set of each nonterminal at the end of the items what can follow the left side, and tells whether that was new.
     fn add_last(&mut self, left: u8, items: &[Item]) -> bool
-        requires { (left < 64) × (All SmallItem items.now) }
+        requires { (left < 64) × (AllByRecursion SmallItem items.now) }
         ensures added { AddedFollow self.old (from_left self.old left items.now) self.new }
         ensures grown { Grown result self.old self.new }
     {

@@ -1,5 +1,5 @@
 // What a run of items can begin with.
-ghost use Rattle.std.specs.List.{AllByRecursion as All};
+ghost use Rattle.std.specs.List.{AllByRecursion};
 ghost use Rattle.sets.specs.Bounds.{SmallItem};
 ghost use Rattle.sets.specs.Words.{held, Tells};
 
@@ -9,7 +9,7 @@ use table::drafts::Item;
 impl SetWords {
     // What the items can begin with, and whether they can all be empty, as far as the sets know.
     pub(crate) fn run(&self, items: &[Item]) -> Run
-        requires { All SmallItem items.now }
+        requires { AllByRecursion SmallItem items.now }
         ensures { Tells (held self.now) items.now result }
     {
         let mut kinds = 0;

@@ -1,7 +1,7 @@
 -- A draft that breaks no rule keeps each. Assumes nothing.
 use Rattle.std.proofs.Common.{◌≡◌, Bool, true, false, cond, not, List, [], ◌∷◌, is_some, Some, Option, refl}
 use Rattle.std.proofs.lemmas.Bool.{both_ways}
-use Rattle.std.specs.List.{AllByRecursion as All}
+use Rattle.std.specs.List.{AllByRecursion}
 use Rattle.table.specs.declared.drafts.Draft.{Draft}
 use Rattle.table.specs.declared.faults.TableFault.{TableFault}
 use Rattle.table.specs.declared.faults.TableFault.TheVariants.{CountOutside, NoLeftSide, TooManyItems, NoSymbol, NoSlot, BadLetters, NoProduction, BadSpelling}
@@ -12,7 +12,7 @@ first_kept : (k : Bool) (f : TableFault) (rest : Option TableFault) → not (is_
 first_kept true f rest none = (refl, none)
 first_kept false f rest none = absurd (both_ways false refl none)
 
-all_kept : (rules : List TableFault) (d : Draft) → not (is_some (first_broken rules d)) ≡ true → All (λ f. kept f d ≡ true) rules
+all_kept : (rules : List TableFault) (d : Draft) → not (is_some (first_broken rules d)) ≡ true → AllByRecursion (λ f. kept f d ≡ true) rules
 all_kept [] d none = tt
 all_kept (f ∷ rules) d none = let now = first_kept (kept f d) f (first_broken rules d) none in (now.0, all_kept rules d now.1)
 

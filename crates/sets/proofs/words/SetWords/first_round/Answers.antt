@@ -1,5 +1,5 @@
 use Rattle.std.proofs.Common.{◌-◌, ◌<◌, ◌≤◌, length, sym, refl, ◌∙◌, subst, inl, inr, ⊎_elim, arith}
-use Rattle.std.specs.List.{AllByRecursion as All}
+use Rattle.std.specs.List.{AllByRecursion}
 use Rattle.std.proofs.lemmas.List.{length-map}
 use Rattle.std.proofs.lemmas.Bool.{cases_eq}
 use Rattle.table.specs.Grammar.{plain}
@@ -13,7 +13,7 @@ use Rattle.sets.proofs.words.SetWords.first_round.Goals as goal
 pub add_first-grown-requires : goal.add_first-grown-requires
 add_first-grown-requires c =
     let small = small_at c.args.productions.now (c.loop-i.i - 1) c.index-productions-i.result (omega arith) c.index-productions-i.is c.requires in
-    (small.0, subst (All SmallItem) (sym c.deref.ensures.value) small.1)
+    (small.0, subst (AllByRecursion SmallItem) (sym c.deref.ensures.value) small.1)
 
 pub loop-i-init : goal.loop-i-init
 loop-i-init c = (

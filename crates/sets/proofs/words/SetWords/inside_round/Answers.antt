@@ -1,5 +1,5 @@
 use Rattle.std.proofs.Common.{map, sym, subst, ⊎_elim, arith}
-use Rattle.std.specs.List.{AllByRecursion as All}
+use Rattle.std.specs.List.{AllByRecursion}
 use Rattle.std.proofs.lemmas.List.{length-map}
 use Rattle.std.proofs.lemmas.Bool.{cases_eq}
 use Rattle.table.specs.Grammar.{plain}
@@ -17,7 +17,7 @@ use Rattle.sets.proofs.words.SetWords.inside_round.Goals as goal
 pub add_inside-requires : goal.add_inside-requires
 add_inside-requires c =
     let small = small_at c.args.productions.now _ c.production-item.result c.loop-production-test.true c.production-item.is c.requires.0 in
-    subst (All SmallItem) (sym c.deref.ensures.value) small.1
+    subst (AllByRecursion SmallItem) (sym c.deref.ensures.value) small.1
 
 pub loop-production-init : goal.loop-production-init
 loop-production-init c = (c.requires.1, kept_none _, λ n p h at. let no : ⊥ = omega arith in absurd no)

@@ -1,5 +1,5 @@
 use Rattle.std.proofs.Common.{◌<◌, vec_items, sym, subst, inl, inr, ⊎_elim, arith}
-use Rattle.std.specs.List.{AllByRecursion as All}
+use Rattle.std.specs.List.{AllByRecursion}
 use Rattle.std.proofs.lemmas.List.{length-map}
 use Rattle.std.proofs.lemmas.Bool.{cases_eq}
 use Rattle.table.specs.Grammar.{plain}
@@ -14,7 +14,7 @@ use Rattle.sets.proofs.words.SetWords.last_round.Goals as goal
 pub add_last-grown-requires : goal.add_last-grown-requires
 add_last-grown-requires c =
     let small = small_at c.args.productions.now _ c.production-item.result c.loop-production-test.true c.production-item.is c.requires in
-    (small.0, subst (All SmallItem) (sym c.deref.ensures.value) small.1)
+    (small.0, subst (AllByRecursion SmallItem) (sym c.deref.ensures.value) small.1)
 
 pub loop-production-init : goal.loop-production-init
 loop-production-init c = (going_none _ _ _ _ (λ n p h at. omega arith), kept_none _)
