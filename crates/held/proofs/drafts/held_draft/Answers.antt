@@ -4,7 +4,7 @@ use Rattle.std.specs.declared.alloc.Global.{Global}
 use Rattle.table.specs.declared.drafts.Item.{Item}
 use Rattle.table.specs.declared.drafts.Production as filled
 use Rattle.table.specs.declared.kinds.KindSet.{KindSet}
-use Rattle.table.specs.Grammar.{Production, plain}
+use Rattle.table.specs.Grammar.{plain}
 use Rattle.table.specs.Kinds.{bit, has}
 use Rattle.language.specs.Tables.{full, same, without_else}
 use Rattle.held.proofs.drafts.held_draft.Goals as goal
