@@ -25,7 +25,7 @@ fn sum(bytes: &[u8], runs: u32) -> u64 {
 
 mod rattle {
     #[link(name = "bench_check", kind = "static")]
-    #[link(name = "rattle_c", kind = "static")]
+    #[link(name = "libc_c", kind = "static")]
     extern "C" {
         fn check_case(bytes: *const u8, length: usize, runs: u32) -> u64;
     }
