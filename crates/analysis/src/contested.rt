@@ -15,7 +15,7 @@ fn write_seen(table: &Table, kinds: &mut [u64; 126])
     write_predicts(table, kinds);
     let productions = listed(table);
     for (n, production) in productions.iter().enumerate() {
-        kinds[n] &= production.sight.bits();
+        kinds[n] &= u64::from(production.sight);
     }
 }
 

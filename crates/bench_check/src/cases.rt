@@ -38,7 +38,7 @@ fn read_item(from: &mut Bytes<'_>) -> anyhow::Result<Item> {
 fn read_production(heap: Global, from: &mut Bytes<'_>) -> anyhow::Result<Production> {
     let left = from.byte()?;
     let test = from.byte()?;
-    let sight = KindSet::new(from.long()?);
+    let sight = KindSet::from(from.long()?);
     let result = read_operation(from)?;
     let mut items = Vec::new(heap);
     for _ in 0..from.byte()? {

@@ -31,7 +31,7 @@ fn item(cases: &mut Cursor<'_>) -> Result<Item, CaseError> {
 fn production(cases: &mut Cursor<'_>, heap: Global) -> Result<Production, CaseError> {
     let left = number8(cases)?;
     let test = number8(cases)?;
-    let sight = KindSet::new(number(cases)?);
+    let sight = KindSet::from(number(cases)?);
     let result = operation(cases)?;
     let mut items = Vec::new(heap);
     for _ in 0..number(cases)? {

@@ -25,7 +25,7 @@ fn read_item(from: &mut Rest<'_>) -> anyhow::Result<Item> {
 fn read_production(heap: Global, from: &mut Rest<'_>) -> anyhow::Result<Production> {
     let left = from.byte()?;
     let test = from.byte()?;
-    let sight = KindSet::new(from.word()?);
+    let sight = KindSet::from(from.word()?);
     let result = read_operation(from)?;
     let mut items = Vec::new(heap);
     for _ in 0..from.byte()? {

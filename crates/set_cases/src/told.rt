@@ -36,12 +36,12 @@ fn told_with<D: Domain>(heap: Global, from: &mut Rest<'_>, domain: &D) -> anyhow
     let mut told = String::new(heap);
     for a in 0..table.draft().nonterminals {
         let empty = sets.can_be_empty(a) as u8;
-        let first = sets.first(a).bits();
-        let follow = sets.follow(a).bits();
+        let first = u64::from(sets.first(a));
+        let follow = u64::from(sets.follow(a));
         write!(told, "{empty} {first} {follow} ")?;
     }
     for n in 0..listed(&table).len() as u8 {
-        let predict = predicts.get(n).bits();
+        let predict = u64::from(predicts.get(n));
         write!(told, "{predict} ")?;
     }
     match check(&table, domain) {

@@ -1,38 +1,35 @@
--- Bits of numbers, and of the words of a list. Assumes nothing.
-use Rattle.std.proofs.Common.{◌≡◌, ℕ, zero, suc, ◌+◌, ◌*◌, ◌/◌, ◌%◌, ◌^◌, ◌<◌, ◌≤◌, true, false, ◌&&◌, ◌||◌, eqb, List, length, get_or, set, sym, ap, ◌∙◌, ap₂, ⊎_elim, one-add, arith, get_or-set_other, get_or-set_same}
+-- Bits of numbers, and of the words of a list.
+use Rattle.std.proofs.Common.{◌≡◌, ℕ, zero, suc, ◌+◌, ◌*◌, ◌/◌, ◌%◌, ◌^◌, ◌<◌, ◌≤◌, true, false, ◌&&◌, ◌||◌, eqb, List, length, get_or, set, sym, ap, ◌∙◌, ap₂, ⊎_elim, inl, inr, refl, max, min, one-add, arith, get_or-set_other, get_or-set_same}
 use mathlib.Core.Bool.{or-false}
 use native.Mathlib.Nat.{div-eq_of_lt}
-use lib.Bits.{bit_and, bit_or, or_step, and_step}
-use Rattle.std.proofs.lemmas.Nat.{and_shr, or_shr, one_shl, pow-add, pow_pos, shr-shr}
+use lib.Bits.{bit_and, bit_or}
+use Rattle.std.proofs.lemmas.Nat.{one_shl, pow-add, pow_pos, shr-shr}
 use Rattle.std.proofs.lemmas.Bool.{cases_eq, eq-eqb, ne_eqb}
 use Rattle.std.proofs.lemmas.Bool.Decides.{nat_tests}
+use Rattle.std.proofs.lemmas.Nat.Bits.{bit_at_or, bit_at_and, bit_at-pow_same, bit_at-pow_other, bit_at-lt}
 use Rattle.table.specs.Kinds.{bit}
-use Rattle.table.proofs.Bits.{digit_pow, digit_pow_same}
 
-or_low : (x y : ℕ) → eqb (bit_or x y % 2) 1 ≡ (eqb (x % 2) 1 || eqb (y % 2) 1)
-or_low x y = let s = or_step x y in grind (arith, nat_tests)
+one_of : (m n : ℕ) → m < 2 → n < 2 → eqb (max m n) 1 ≡ (eqb m 1 || eqb n 1)
+one_of m n p q = grind (arith, nat_tests)
 
 pub bit-bit_or : (x y k : ℕ) → bit (bit_or x y) k ≡ (bit x k || bit y k)
-bit-bit_or x y k = ap (λ n. eqb (n % 2) 1) (or_shr x y k) ∙ or_low (x / 2 ^ k) (y / 2 ^ k)
+bit-bit_or x y k = rw bit_at_or (one_of _ _ (bit_at-lt x k) (bit_at-lt y k))
 
-and_low : (x y : ℕ) → eqb (bit_and x y % 2) 1 ≡ (eqb (x % 2) 1 && eqb (y % 2) 1)
-and_low x y = let s = and_step x y in grind (arith, nat_tests)
+both_of : (m n : ℕ) → m < 2 → n < 2 → eqb (min m n) 1 ≡ (eqb m 1 && eqb n 1)
+both_of m n p q = grind (arith, nat_tests)
 
 pub bit-bit_and : (x y k : ℕ) → bit (bit_and x y) k ≡ (bit x k && bit y k)
-bit-bit_and x y k = ap (λ n. eqb (n % 2) 1) (and_shr x y k) ∙ and_low (x / 2 ^ k) (y / 2 ^ k)
+bit-bit_and x y k = rw bit_at_and (both_of _ _ (bit_at-lt x k) (bit_at-lt y k))
 
 pub bit_zero : (k : ℕ) → bit 0 k ≡ false
 bit_zero k = ap (λ n. eqb (n % 2) 1) (div-eq_of_lt (pow_pos k))
 
 -- the word with bit j alone
 pub bit_power : (j k : ℕ) → bit (2 ^ j) k ≡ eqb j k
-bit_power j k = ⊎_elim same other (cases_eq j k)
-  where
-    same : j ≡ k → bit (2 ^ j) k ≡ eqb j k
-    same e = ap (λ n. bit (2 ^ n) k) e ∙ eq-eqb _ 1 (digit_pow_same k) ∙ sym (eq-eqb j k e)
-
-    other : (j ≡ k → ⊥) → bit (2 ^ j) k ≡ eqb j k
-    other ne = ap (λ n. eqb n 1) (⊎_elim (λ z. z) (λ e. absurd (ne e)) (digit_pow j k)) ∙ sym (ne_eqb j k ne)
+bit_power j k = elim (cases_eq j k) [
+  | inl e ↦ rw (e, bit_at-pow_same, eq-eqb k k refl) refl
+  | inr ne ↦ rw (bit_at-pow_other j k (λ e. ne (sym e)), ne_eqb j k ne) refl
+]
 
 pub bit_shl : (j k : ℕ) → j < 64 → bit (1 * 2 ^ j % 2 ^ 64) k ≡ eqb j k
 bit_shl j k h = ap (λ n. bit n k) (one_shl j 64 h) ∙ bit_power j k

@@ -60,7 +60,7 @@ impl SetWords {
     pub fn can_be_empty(&self, nonterminal: u8) -> bool
         ensures { result ≡ (held self.now).empty nonterminal }
     {
-        KindSet::new(self.empty).has(nonterminal)
+        KindSet::from(self.empty).has(nonterminal)
     }
 
     // The kinds that the nonterminal can begin with.
@@ -126,11 +126,11 @@ impl PredictWords {
 
 // The set that word n holds; none stands past the last word.
 fn set_at(words: &[u64], n: u8) -> KindSet
-    ensures { result.bits ≡ slice_index words.now n }
+    ensures { result ≡ slice_index words.now n }
 {
     if (n as usize) < words.len() {
-        KindSet::new(words[n as usize])
+        KindSet::from(words[n as usize])
     } else {
-        KindSet::new(0)
+        KindSet::from(0)
     }
 }

@@ -1,10 +1,11 @@
--- Sets of kinds as numbers. Assumes nothing.
-use Rattle.std.specs.Prelude.{ℕ, ◌/◌, ◌%◌, ◌^◌, Bool, ◌==◌}
-use Rattle.table.specs.declared.kinds.KindSet.{KindSet}
+-- Sets of kinds as numbers.
+use Rattle.std.specs.Prelude.{ℕ, Bool, ◌==◌}
+use Rattle.std.specs.Int.{bit_at}
 
 -- bit k of the number
 abbrev pub bit : ℕ → ℕ → Bool
-bit number k = number / 2 ^ k % 2 == 1
+bit number k = bit_at number k == 1
 
-abbrev pub has : KindSet → ℕ → Bool
-has kinds k = bit kinds.bits k
+-- whether kind k is in the set that the number writes
+abbrev pub has : ℕ → ℕ → Bool
+has = bit

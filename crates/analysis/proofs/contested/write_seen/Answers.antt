@@ -17,7 +17,7 @@ loop-n-preserved c =
     let within : c.loop-n.n < length all = subst (λ ps. c.loop-n.n < length ps) same (omega (arith, c.loop-n-test.true)) in
     let stands = at_listed all c.loop-n.n here within (c.index-productions-n.is ∙ ap (λ ps. get_or ps c.loop-n.n here) same) in
     seeing_more _ c.loop-n.kinds c.loop-n.n _ (plain here) (omega (arith, c.loop-n-test.true, c.listed-productions.ensures.few)) stands
-    (λ k. ap (λ x. bit x k) c.bits.ensures) c.loop-n.invariant
+    (λ k. ap (λ x. bit x k) c.from.ensures) c.loop-n.invariant
 
 pub returns : goal.returns
 returns c =

@@ -23,11 +23,11 @@ pub returns : goal.returns
 returns c =
     let sight = c.full-full.result in
     let rest = c.without.result in
-    let all : (k : ℕ) → has sight k ≡ full k = λ k. all_kinds sight.bits k (c.full-full.ensures k) in
+    let all : (k : ℕ) → has sight k ≡ full k = λ k. all_kinds sight k (c.full-full.ensures k) in
     let when = shaped 0 sight c.in_ok-vec.field-0 c.production.result full _ c.production.ensures all c.in_ok-vec.ensures.items in
     let park = shaped 0 sight c.in_ok-vec-2.field-0 c.production-2.result full _ c.production-2.ensures all c.in_ok-vec-2.ensures.items in
     let else = shaped 1 sight c.in_ok-vec-3.field-0 c.production-3.result full _ c.production-3.ensures all c.in_ok-vec-3.ensures.items in
-    let none = shaped 1 rest c.new.result c.production-4.result without_else _ c.production-4.ensures (λ k. but_else sight.bits rest.bits k (c.full-full.ensures k) (c.without.ensures k)) c.new.ensures.items in
+    let none = shaped 1 rest c.new.result c.production-4.result without_else _ c.production-4.ensures (λ k. but_else sight rest k (c.full-full.ensures k) (c.without.ensures k)) c.new.ensures.items in
     record {
       nonterminals = refl;
       kinds = refl;
