@@ -1,19 +1,14 @@
--- The rows of a test's answers, and what is known at the places of tests. Assumes nothing.
-use Rattle.std.proofs.Common.{◌≡◌, ℕ, ◌+◌, ◌*◌, ◌%◌, ◌^◌, ◌<◌, ◌≤◌, Bool, true, false, ◌&&◌, ◌||◌, eqb, ltb, List, [], length, get_or, set, replicate, sym, ap, ◌∙◌, subst, ap₂, ⊎_elim, arith, length-set, get_or-set_other, get_or-set_same}
+-- The rows of a test's answers.
+use Rattle.std.proofs.Common.{◌≡◌, ℕ, ◌+◌, ◌*◌, ◌%◌, ◌^◌, ◌<◌, ◌≤◌, Bool, true, false, ◌&&◌, ◌||◌, eqb, ltb, List, length, get_or, set, sym, ap, ◌∙◌, ap₂, ⊎_elim, arith, length-set, get_or-set_other, get_or-set_same}
 use mathlib.Core.Bool.{and-true, or-false, and-false}
 use lib.Bits.{bit_or}
 use Rattle.domain.specs.Meaning.{Classes}
 use Rattle.std.proofs.lemmas.Nat.{one_shl, pow-add}
-use Rattle.std.proofs.lemmas.List.{get_or-replicate}
 use Rattle.std.proofs.lemmas.Bool.{cases_eq, eq-eqb, ne_eqb, lt-ltb, le-ltb}
 use Rattle.std.proofs.lemmas.Bool.Decides.{nat_tests}
 use Rattle.table.specs.Kinds.{bit}
-use Rattle.sets.proofs.Bits.{bit-bit_or, bit_power, bit_zero}
-use Rattle.analysis.specs.declared.said.Said.{Said}
-use Rattle.analysis.specs.declared.said.Said.TheVariants.{Unasked}
-use Rattle.analysis.specs.declared.places.Tests.{Tests}
-use Rattle.analysis.specs.Answers.{Rows, Never, Known, AllKnown, Told}
-use Rattle.analysis.specs.Places.{Placed}
+use Rattle.table.proofs.Bits.{bit_of_or, bit_power, bit_zero}
+use Rattle.analysis.specs.Asked.{Rows, Never}
 use Rattle.analysis.proofs.Standing.{below_or_at}
 use Rattle.analysis.proofs.Words.{both_none}
 
@@ -26,7 +21,11 @@ mark_more n mark is h =
     one_mul = omega arith
 
 module _ (t : ℕ → Bool) where
-  pub row_none : (j : ℕ) → bit 0 j ≡ (ltb j 0 && t j)
+  -- the row has the answers at the classes below n
+  abbrev pub Row : ℕ → ℕ → Type 0
+  Row row n = (j : ℕ) → bit row j ≡ (ltb j n && t j)
+
+  pub row_none : Row 0 0
   row_none j = bit_zero j ∙ ap (λ b. b && t j) (sym (le-ltb j 0 (omega arith)))
 
   -- one class further, at which the test says b
@@ -44,12 +43,11 @@ module _ (t : ℕ → Bool) where
       other : (n ≡ j → ⊥) → ((ltb j n && t j) || (eqb n j && b)) ≡ (ltb j (n + 1) && t j)
       other h = ap (λ y. (ltb j n && t j) || (y && b)) (ne_eqb n j h) ∙ or-false (ltb j n && t j) ∙ ap (λ x. x && t j) (further h)
 
-  pub row_then : (row n mark : ℕ) → mark ≡ 2 ^ n → t n ≡ true → ((j : ℕ) → bit row j ≡ (ltb j n && t j))
-      → (j : ℕ) → bit (bit_or row mark) j ≡ (ltb j (n + 1) && t j)
+  pub row_then : (row n mark : ℕ) → mark ≡ 2 ^ n → t n ≡ true → Row row n → Row (bit_or row mark) (n + 1)
   row_then row n mark is says inv j =
-      bit-bit_or row mark j ∙ ap (λ x. bit row j || x) (ap (λ m. bit m j) is ∙ bit_power n j ∙ sym (and-true (eqb n j))) ∙ row_more n (bit row j) true j says (inv j)
+      bit_of_or row mark j ∙ ap (λ x. bit row j || x) (ap (λ m. bit m j) is ∙ bit_power n j ∙ sym (and-true (eqb n j))) ∙ row_more n (bit row j) true j says (inv j)
 
-  pub row_else : (row n : ℕ) → t n ≡ false → ((j : ℕ) → bit row j ≡ (ltb j n && t j)) → (j : ℕ) → bit row j ≡ (ltb j (n + 1) && t j)
+  pub row_else : (row n : ℕ) → t n ≡ false → Row row n → Row row (n + 1)
   row_else row n says inv j =
       sym (or-false (bit row j)) ∙ ap (λ x. bit row j || x) (sym (and-false (eqb n j))) ∙ row_more n (bit row j) false j says (inv j)
 
@@ -57,22 +55,21 @@ module _ (t : ℕ → ℕ → Bool) (classes : ℕ) where
   -- the rows below n are the test's answers, and `all` is 0 only if they are
   pub record Asking (rows : List ℕ) (all n : ℕ) : Type 0 where
     pub long : length rows ≡ 64
-    pub told : (i j : ℕ) → i < n → bit (get_or rows i 0) j ≡ (ltb j classes && t i j)
+    pub told : (i : ℕ) → i < n → Row (t i) (get_or rows i 0) classes
     pub none : all ≡ 0 → (i : ℕ) → i < n → get_or rows i 0 ≡ 0
 
   pub asking_none : (rows : List ℕ) (all : ℕ) → length rows ≡ 64 → Asking rows all 0
   asking_none rows all long = record {
     long = long;
-    told = λ i j h. let no : ⊥ = omega arith in absurd no;
+    told = λ i h. let no : ⊥ = omega arith in absurd no;
     none = λ e i h. let no : ⊥ = omega arith in absurd no;
   }
 
-  pub asking_more : (rows : List ℕ) (all n row : ℕ) → n < 64 → ((j : ℕ) → bit row j ≡ (ltb j classes && t n j)) → Asking rows all n
-      → Asking (set rows n row) (bit_or all row) (n + 1)
+  pub asking_more : (rows : List ℕ) (all n row : ℕ) → n < 64 → Row (t n) row classes → Asking rows all n → Asking (set rows n row) (bit_or all row) (n + 1)
   asking_more rows all n row few says s = record {
     long = length-set rows n row ∙ s.long;
-    told = λ i j h. below_or_at i n h
-        (λ l. ap (λ w. bit w j) (other i l) ∙ s.told i j l)
+    told = λ i h j. below_or_at i n h
+        (λ l. ap (λ w. bit w j) (other i l) ∙ s.told i l j)
         (λ e. ap (λ m. bit (get_or (set rows n row) m 0) j) e ∙ ap (λ w. bit w j) same ∙ says j ∙ ap (λ m. ltb j classes && t m j) (sym e));
     none = λ e i h.
         let parts = both_none all row e in
@@ -87,50 +84,7 @@ module _ (t : ℕ → ℕ → Bool) (classes : ℕ) where
 
 module _ (c : Classes) (test : ℕ) (rows : List ℕ) (all n : ℕ) (upto : c.count ≤ n) (s : Asking (c.test test) c.count rows all n) where
   pub asking_all : Rows c test rows
-  asking_all i j hi hj = s.told i j (omega arith) ∙ ap (λ b. b && c.test test i j) (lt-ltb j c.count hj)
+  asking_all i j hi hj = s.told i (omega arith) j ∙ ap (λ b. b && c.test test i j) (lt-ltb j c.count hj)
 
   pub asking_never : all ≡ 0 → Never c test
   asking_never none i j hi hj = sym (asking_all i j hi hj) ∙ ap (λ w. bit w j) (s.none none i (omega arith)) ∙ bit_zero j
-
-module _ (c : Classes) (t : Tests) (test : ℕ) (placed : Placed t test) where
-  -- the place of the test
-  abbrev place : ℕ
-  place = get_or t.places test 0
-
-  pub known_here : (said : List Said) (rows : List (List ℕ)) → AllKnown c t said rows → Known c test (get_or said place Unasked) (get_or rows place [])
-  known_here said rows all = subst (λ m. Known c m (get_or said place Unasked) (get_or rows place [])) placed.stands (all place placed.within)
-
-  module _ (rows : List (List ℕ)) (r : List ℕ) (room : t.count ≤ length rows) where
-    row_here : get_or (set rows place r) place [] ≡ r
-    row_here = get_or-set_same rows place r [] (omega (arith, placed.within))
-
-    pub told_here : Rows c test r → Told c t (set rows place r) test
-    told_here told = subst (Rows c test) (sym row_here) told
-
-    -- another test has another place
-    pub told_kept : Rows c test r → (other : ℕ) → Placed t other → Told c t rows other → Told c t (set rows place r) other
-    told_kept told other stands was =
-        ⊎_elim
-        (λ e.
-        let same : test ≡ other = sym placed.stands ∙ ap (λ m. get_or t.numbers m 0) (sym e) ∙ stands.stands in
-        subst (λ m. Rows c m (get_or (set rows place r) (get_or t.places m 0) [])) same (told_here told))
-        (λ ne. subst (Rows c other) (sym (get_or-set_other rows place (get_or t.places other 0) r [] ne)) was)
-        (cases_eq (get_or t.places other 0) place)
-
-    pub known_set : (said : List Said) (s : Said) → t.count ≤ length said → Known c test s r → AllKnown c t said rows
-        → AllKnown c t (set said place s) (set rows place r)
-    known_set said s few known all n h =
-        ⊎_elim
-        (λ e.
-        subst (λ m. Known c (get_or t.numbers m 0) (get_or (set said place s) m Unasked) (get_or (set rows place r) m [])) (sym e)
-        (subst (λ m. Known c m (get_or (set said place s) place Unasked) (get_or (set rows place r) place [])) (sym placed.stands)
-        (subst (λ x. Known c test x (get_or (set rows place r) place [])) (sym (get_or-set_same said place s Unasked (omega (arith, placed.within))))
-        (subst (Known c test s) (sym row_here) known))))
-        (λ ne.
-        subst (λ x. Known c (get_or t.numbers n 0) x (get_or (set rows place r) n [])) (sym (get_or-set_other said place n s Unasked ne))
-        (subst (Known c (get_or t.numbers n 0) (get_or said n Unasked)) (sym (get_or-set_other rows place n r [] ne)) (all n h)))
-        (cases_eq n place)
-
-pub none_known : (c : Classes) (t : Tests) (rows : List (List ℕ)) → t.count ≤ 126 → AllKnown c t (replicate 126 Unasked) rows
-none_known c t rows few n h =
-    subst (λ s. Known c (get_or t.numbers n 0) s (get_or rows n [])) (sym (get_or-replicate 126 n Unasked Unasked (omega arith))) tt

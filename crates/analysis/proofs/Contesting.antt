@@ -1,4 +1,4 @@
--- The kinds that productions see, share and contest. Assumes nothing.
+-- The kinds that productions see, share and contest.
 use Rattle.std.proofs.Common.{◌≡◌, ℕ, ◌+◌, ◌<◌, ◌≤◌, true, ◌&&◌, List, length, get_or, set, Decides, sym, refl, ap, ◌∙◌, subst, arith, length-set, get_or-set_other, get_or-set_same}
 use lib.Bits.{bit_and, bit_or}
 use Rattle.std.proofs.lemmas.Bool.{and_parts, and_from, or_left, or_right, eq-eqb}
@@ -6,7 +6,8 @@ use Rattle.table.specs.Grammar.{Production}
 use Rattle.table.specs.Kinds.{bit}
 use Rattle.sets.specs.Sets.{At, Predict}
 use Rattle.sets.specs.Words.{Predicted}
-use Rattle.sets.proofs.Bits.{bit-bit_and, bit_joined}
+use Rattle.table.proofs.Bits.{bit_of_and}
+use Rattle.sets.proofs.Bits.{bit_joined}
 use Rattle.analysis.specs.Contested.{Sees, Seen, Shared, Contested}
 use Rattle.analysis.proofs.Standing.{Below, below_none, below_next, below_all}
 
@@ -15,8 +16,8 @@ module _ (g : List Production) where
   sees_both : (p : Production) (predict sight k : ℕ) → Decides (bit predict k) (Predict g p k) → bit sight k ≡ p.sight k
       → Decides (bit (bit_and predict sight) k) (Sees g p k)
   sees_both p predict sight k d e = (
-    λ h. let both = and_parts (bit predict k) (bit sight k) (sym (bit-bit_and predict sight k) ∙ h) in (d.0 both.0, sym e ∙ both.1),
-    λ h. bit-bit_and predict sight k ∙ and_from _ _ (d.1 h.0) (e ∙ h.1),
+    λ h. let both = and_parts (bit predict k) (bit sight k) (sym (bit_of_and predict sight k) ∙ h) in (d.0 both.0, sym e ∙ both.1),
+    λ h. bit_of_and predict sight k ∙ and_from _ _ (d.1 h.0) (e ∙ h.1),
   )
 
   -- the words below n have the kinds that their productions see, and those from n on the kinds that these predict
@@ -93,7 +94,7 @@ module _ (g : List Production) (kinds : List ℕ) where
             (λ a p other l left k e f.
             subst (λ i. bit (get_or (joined twice q.left (bit_and (get_or once q.left 0) (get_or kinds n 0))) i 0) k ≡ true) (sym left)
             (joined_new twice _ _ k in_twice
-            (bit-bit_and _ _ k ∙ and_from _ _ (subst (λ i. bit (get_or once i 0) k ≡ true) left (s.has_once a p l other k e)) f)));
+            (bit_of_and _ _ k ∙ and_from _ _ (subst (λ i. bit (get_or once i 0) k ≡ true) left (s.has_once a p l other k e)) f)));
       }
 
   pub sharing_all : (once twice : List ℕ) (n : ℕ) → length g ≤ n → Sharing once twice n → Shared g kinds twice
@@ -134,4 +135,4 @@ module _ (g : List Production) (was shared : List ℕ) where
   }
     where
       bits : {m : ℕ} {p : Production} → At g m p → (k : ℕ) → bit (get_or kinds m 0) k ≡ (bit (get_or was m 0) k && bit (get_or shared p.left 0) k)
-      bits {m} {p} at k = ap (λ w. bit w k) (below_all g (λ m p. get_or kinds m 0 ≡ bit_and (get_or was m 0) (get_or shared p.left 0)) n all s.narrowed at) ∙ bit-bit_and _ _ k
+      bits {m} {p} at k = ap (λ w. bit w k) (below_all g (λ m p. get_or kinds m 0 ≡ bit_and (get_or was m 0) (get_or shared p.left 0)) n all s.narrowed at) ∙ bit_of_and _ _ k

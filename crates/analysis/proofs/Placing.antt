@@ -1,10 +1,27 @@
--- The tests that have a place. Assumes nothing.
-use Rattle.std.proofs.Common.{◌≡◌, ℕ, ◌+◌, ◌≤◌, List, length, get_or, arith}
+-- The tests that have a place.
+use Rattle.std.proofs.Common.{◌≡◌, ℕ, ◌+◌, ◌<◌, ◌≤◌, List, length, get_or, replicate, Some, None, Option, IsSome, is_some, sym, refl, ap, ◌∙◌, ⊎_elim, arith}
+use Rattle.std.proofs.lemmas.Bool.{cases_lt, false≢true}
+use Rattle.std.proofs.lemmas.List.{get_or-replicate, get_or_past, length-replicate}
 use Rattle.table.specs.Grammar.{Production}
 use Rattle.sets.specs.Sets.{At}
 use Rattle.analysis.specs.declared.places.Tests.{Tests}
 use Rattle.analysis.specs.Places.{Placed, AllPlaced}
 use Rattle.analysis.proofs.Standing.{Below, below_next, below_all}
+
+pub placed_nowhere : (n test place : ℕ) → get_or (replicate n None) test None ≡ Some place → ⊥
+placed_nowhere n test place at =
+    let empty : Option ℕ = None in
+    let none : get_or (replicate n empty) test empty ≡ empty =
+    ⊎_elim
+    (λ within. get_or-replicate n test empty empty within)
+    (λ past. get_or_past (replicate n empty) test empty (omega (arith, length-replicate n empty)))
+    (cases_lt test n) in
+    false≢true (ap is_some (sym none ∙ at))
+
+-- where there is no place, no test has one
+pub no_places : (o : Option ℕ) → ((place : ℕ) → o ≡ Some place → place < 0) → IsSome o → ⊥
+no_places None within placed = false≢true placed
+no_places (Some place) within placed = let no = within place refl in omega arith
 
 module _ (g : List Production) (kinds : List ℕ) where
   -- the tests of the productions below n whose words are not 0 have places

@@ -1,24 +1,21 @@
--- What the search has passed: no clash at lower numbers. Assumes nothing.
-use Rattle.std.proofs.Common.{◌≡◌, ℕ, ◌+◌, ◌^◌, ◌<◌, ◌≤◌, true, List, [], ◌∷◌, map, length, get_or, None, Option, sym, ap, ◌∙◌, subst, arith, MatchOption}
+-- What the search has passed: no clash at lower numbers.
+use Rattle.std.proofs.Common.{◌≡◌, ℕ, ◌+◌, ◌^◌, ◌<◌, ◌≤◌, true, List, length, get_or, None, Option, sym, ap, ◌∙◌, subst, arith, MatchOption}
 use lib.Bits.{bit_and}
 use Rattle.domain.specs.Meaning.{Classes}
 use Rattle.std.proofs.lemmas.Bool.{and_parts, and_from, false≢true}
-use Rattle.table.specs.declared.drafts.Production as filled
-use Rattle.table.specs.Grammar.{Production, plain}
+use Rattle.table.specs.Grammar.{Production}
 use Rattle.table.specs.Kinds.{bit}
-use Rattle.table.proofs.Bits.{bit_within}
 use Rattle.sets.specs.Sets.{At, end_mark}
-use Rattle.sets.proofs.Bits.{bit-bit_and, bit_zero}
+use Rattle.table.proofs.Bits.{bit_within, bit_of_and, bit_zero}
 use Rattle.sets.proofs.Predicting.{at_below}
-use Rattle.analysis.specs.declared.faults.CheckFault.{CheckFault}
-use Rattle.analysis.specs.declared.faults.CheckFault.TheVariants.{ManyClasses, TwoClash}
+use Rattle.analysis.specs.declared.faults.Clash as found_clash
 use Rattle.analysis.specs.declared.places.Tests.{Tests}
-use Rattle.analysis.specs.Answers.{Rows, Never}
+use Rattle.analysis.specs.Asked.{Rows, Never}
 use Rattle.analysis.specs.Clashes.{Clash, ClashFree}
 use Rattle.analysis.specs.Contested.{Contested}
 use Rattle.analysis.specs.Searches.{FirstClash}
 use Rattle.analysis.specs.Places.{AllPlaced}
-use Rattle.analysis.specs.Verdict.{Refused, refusal, values}
+use Rattle.analysis.proofs.Placing.{no_places}
 use Rattle.analysis.proofs.Standing.{at_same, below_or_at}
 
 module _ (c : Classes) (g : List Production) where
@@ -80,7 +77,7 @@ module _ (c : Classes) (g : List Production) where
       -- the classes that both tests say yes at
       pub both_answer : {k i j : ℕ} → Clash c g a b k i j → bit (bit_and (get_or x i 0) (get_or y i 0)) j ≡ true
       both_answer {i = i} {j} clash =
-          bit-bit_and _ _ j
+          bit_of_and _ _ j
           ∙ and_from _ _
           (one i j clash.inherited_class clash.word_class ∙ ap (λ r. c.test r.test i j) (at_same p_at clash.one_at) ∙ clash.one_may.passes)
           (other i j clash.inherited_class clash.word_class ∙ ap (λ r. c.test r.test i j) (at_same q_at clash.other_at) ∙ clash.other_may.passes)
@@ -93,8 +90,8 @@ module _ (c : Classes) (g : List Production) where
       pub found : (kinds : List ℕ) → Contested g kinds → {k i j : ℕ} → a < b → p.left ≡ q.left → bit (bit_and (get_or kinds a 0) (get_or kinds b 0)) k ≡ true
           → bit (bit_and (get_or x i 0) (get_or y i 0)) j ≡ true → i < c.count → j < c.count → (k ≡ end_mark → j ≡ 0) → Clash c g a b k i j
       found kinds contested {k} {i} {j} order left kind answer i-class j-class end =
-          let both_kinds = and_parts (bit (get_or kinds a 0) k) _ (sym (bit-bit_and _ _ k) ∙ kind) in
-          let answers = and_parts (bit (get_or x i 0) j) _ (sym (bit-bit_and _ _ j) ∙ answer) in
+          let both_kinds = and_parts (bit (get_or kinds a 0) k) _ (sym (bit_of_and _ _ k) ∙ kind) in
+          let answers = and_parts (bit (get_or x i 0) j) _ (sym (bit_of_and _ _ j) ∙ answer) in
           let p_sees = contested.only p_at k both_kinds.0 in
           let q_sees = contested.only q_at k both_kinds.1 in
           record {
@@ -116,7 +113,7 @@ module _ (c : Classes) (g : List Production) where
     kind_none {k = k} none clash = false≢true (sym (bit_zero k) ∙ ap (λ w. bit w k) (sym none) ∙ (contested.all clash).0)
 
     pub kind_common : {a b k i j : ℕ} → Clash c g a b k i j → bit (bit_and (get_or kinds a 0) (get_or kinds b 0)) k ≡ true
-    kind_common {k = k} clash = let both = contested.all clash in bit-bit_and _ _ k ∙ and_from _ _ both.0 both.1
+    kind_common {k = k} clash = let both = contested.all clash in bit_of_and _ _ k ∙ and_from _ _ both.0 both.1
 
     pub common_none : {a b k i j : ℕ} → bit_and (get_or kinds a 0) (get_or kinds b 0) ≡ 0 → Clash c g a b k i j → ⊥
     common_none {k = k} none clash = false≢true (sym (bit_zero k) ∙ ap (λ w. bit w k) (sym none) ∙ kind_common clash)
@@ -127,22 +124,10 @@ module _ (c : Classes) (g : List Production) where
   -- no test has a place
   pub none_placed : (kinds : List ℕ) → Contested g kinds → (t : Tests) → AllPlaced g kinds t → t.count ≡ 0 → ClashFree c g
   none_placed kinds contested t placed none a b k i j clash =
-      let within = (placed.placed clash.one_at (λ e. kind_none kinds contested e clash)).within in omega arith
+      no_places (get_or t.places clash.one.test None) (λ place at. subst (λ n. place < n) none (t.below clash.one.test place at))
+      (placed.placed clash.one_at (λ e. kind_none kinds contested e clash))
 
-  pub none_found : (r : Option CheckFault) (a : ℕ) → r ≡ None → length g ≤ a → NoneA a → MatchOption r (ClashFree c g) (FirstClash c g)
+  pub none_found : (r : Option found_clash.Clash) (a : ℕ) → r ≡ None → length g ≤ a → NoneA a → MatchOption r (ClashFree c g) (FirstClash c g)
   none_found r a e all none =
       subst (λ o. MatchOption o (ClashFree c g) (FirstClash c g)) (sym e)
       (λ a' b k i j clash. none a' b k i j (let l = at_below clash.one_at in omega arith) clash)
-
-  -- what the strong test answers
-  pub over : (n : ℕ) → n ≡ c.count → 64 < n → Refused c g 10 (n ∷ [])
-  over n e h = subst (λ m. Refused c g 10 (m ∷ [])) (sym e) (Refused.many_classes (subst (λ m. 64 < m) e h))
-
-  pub refused : c.count ≤ 64 → (f : CheckFault) → FirstClash c g f → Refused c g (refusal f) (values f)
-  refused small (ManyClasses n) none = absurd none
-  refused small (TwoClash a b k i j) first = Refused.first_clash small first.0 first.1
-
--- the productions that were searched are those of the table
-pub searched : (c : Classes) (ps : List filled.Production) {all : List filled.Production} (r : Option CheckFault) → ps ≡ all
-    → MatchOption r (ClashFree c (map plain ps)) (FirstClash c (map plain ps)) → MatchOption r (ClashFree c (map plain all)) (FirstClash c (map plain all))
-searched c ps r e = subst (λ qs. MatchOption r (ClashFree c (map plain qs)) (FirstClash c (map plain qs))) e

@@ -1,10 +1,11 @@
--- Bits of words, as the code tests them. Assumes nothing.
+-- Bits of words, as the code tests them.
 use Rattle.std.proofs.Common.{◌≡◌, ℕ, ◌/◌, ◌^◌, true, sym, ap, ◌∙◌, arith}
 use lib.Bits.{bit_and, bit_or}
 use Rattle.std.proofs.lemmas.Nat.{and_mask, or_comm}
 use Rattle.std.proofs.lemmas.Bool.{eqb-true, eq-eqb, or_left, false≢true}
 use Rattle.table.specs.Kinds.{bit}
-use Rattle.sets.proofs.Bits.{bit-bit_or, bit_zero, bits_below}
+use Rattle.table.proofs.Bits.{bit_of_or, bit_zero}
+use Rattle.sets.proofs.Bits.{bits_below}
 
 -- the test `n >> k & 1 == 1`
 pub bit_taken : (n k : ℕ) → bit_and (n / 2 ^ k) 1 ≡ 1 → bit n k ≡ true
@@ -20,5 +21,5 @@ both_none a b e = (first a b e, first b a (or_comm b a ∙ e))
     first : (x y : ℕ) → bit_or x y ≡ 0 → x ≡ 0
     first x y none =
         let small = bits_below 0 x
-        (λ k set. absurd (false≢true (sym (bit_zero k) ∙ ap (λ w. bit w k) (sym none) ∙ bit-bit_or x y k ∙ or_left _ _ set))) in
+        (λ k set. absurd (false≢true (sym (bit_zero k) ∙ ap (λ w. bit w k) (sym none) ∙ bit_of_or x y k ∙ or_left _ _ set))) in
         omega arith

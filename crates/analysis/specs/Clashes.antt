@@ -1,4 +1,4 @@
--- When one word of sight does not decide between two productions. Assumes nothing.
+-- When one word of sight does not decide between two productions.
 use Rattle.std.specs.Prelude.{◌≡◌, ℕ, ◌<◌, Bool, true, List}
 use Rattle.domain.specs.Meaning.{Classes}
 use Rattle.table.specs.Grammar.{Production}

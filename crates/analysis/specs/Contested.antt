@@ -1,4 +1,4 @@
--- The kinds at which productions can clash, as a word for each. No contract of a public function cites it. Assumes nothing.
+-- The kinds at which productions can clash, as a word for each. No contract of a public function cites it.
 use Rattle.std.specs.Prelude.{◌≡◌, ℕ, ◌<◌, true, List, Decides, slice_index}
 use Rattle.domain.specs.Meaning.{Classes}
 use Rattle.table.specs.Grammar.{Production}

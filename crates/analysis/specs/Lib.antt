@@ -1,4 +1,5 @@
 pub mod Answers
+pub mod Asked
 pub mod Clashes
 pub mod Contested
 pub mod Places

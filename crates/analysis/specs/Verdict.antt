@@ -1,5 +1,5 @@
--- What the strong test answers. Assumes nothing.
-use Rattle.std.specs.Prelude.{ℕ, ◌<◌, ◌≤◌, List, [], ◌∷◌}
+-- What the strong test answers.
+use Rattle.std.specs.Prelude.{◌≡◌, ℕ, ◌<◌, ◌≤◌, List, [], ◌∷◌}
 use Rattle.domain.specs.Meaning.{Classes}
 use Rattle.table.specs.Grammar.{Production}
 use Rattle.analysis.specs.declared.faults.CheckFault.{CheckFault}
@@ -13,12 +13,16 @@ Passes c g = (c.count ≤ 64) × ClashFree c g
 -- a refusal's number
 abbrev pub refusal : CheckFault → ℕ
 refusal (ManyClasses classes) = 10
-refusal (TwoClash a b k i j) = 11
+refusal (TwoClash clash) = 11
 
 -- the values that it carries: the count of classes; the productions a and b, the kind k and the classes i and j
 abbrev pub values : CheckFault → List ℕ
 values (ManyClasses classes) = classes ∷ []
-values (TwoClash a b k i j) = a ∷ b ∷ k ∷ i ∷ j ∷ []
+values (TwoClash clash) = clash.a ∷ clash.b ∷ clash.kind ∷ clash.inherited ∷ clash.word ∷ []
+
+-- the fault tells that there are over 64 classes
+abbrev pub TooManyClasses : Classes → CheckFault → Type 0
+TooManyClasses c f = (64 < c.count) × (f ≡ ManyClasses c.count)
 
 -- none at five numbers that come before these
 pub record NoneBefore (C : ℕ → ℕ → ℕ → ℕ → ℕ → Type 0) (a b k i j : ℕ) : Type 0 where

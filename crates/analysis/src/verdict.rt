@@ -6,28 +6,27 @@ ghost use Rattle.analysis.specs.Searches.{FirstClash};
 ghost use Rattle.analysis.specs.Verdict.{Passes, Refused, refusal, values};
 
 use crate::contested::write_contested;
-use crate::faults::CheckFault;
+use crate::faults::{CheckFault, Clash};
 use crate::places::Tests;
 use crate::search::first_clash;
+use crate::testable::Testable;
 use domain::Domain;
-use sets::found::listed;
 use table::made::Table;
 
-// The first clash of the table's productions. There is room for the rows of 2, 8 or 126 tests, the last as many as a table can have
-// productions.
-fn clash<D: Domain>(table: &Table, domain: &D) -> Option<CheckFault>
-    requires { (D.meaning domain.now).classes.count ≤ 64 }
-    ensures { MatchOption result (ClashFree (D.meaning domain.now).classes (grammar table.now.draft)) (FirstClash (D.meaning domain.now).classes (grammar table.now.draft)) }
+// The first clash of the table's productions. There is room for the answers of 2, 8 or 126 tests, the last as many as a table can have
+// productions: clearing room for 126, as an `ArrayVec` does too, takes longer than the whole test of a small table.
+fn clash<D: Domain>(table: &Table, domain: &Testable<'_, D>) -> Option<Clash>
+    ensures { MatchOption result (ClashFree (D.meaning domain.now.domain.now).classes (grammar table.now.draft)) (FirstClash (D.meaning domain.now.domain.now).classes (grammar table.now.draft)) }
 {
-    let productions = listed(table);
     let mut kinds = [0; 126];
     write_contested(table, &mut kinds);
-    let tests = Tests::of(productions, &kinds);
+    let mut tests = Tests::none();
+    tests.place_all(table, &kinds);
     match tests.count {
         0 => None,
-        1..=2 => first_clash(domain, productions, &kinds, &tests, &mut [[0; 64]; 2]),
-        3..=8 => first_clash(domain, productions, &kinds, &tests, &mut [[0; 64]; 8]),
-        _ => first_clash(domain, productions, &kinds, &tests, &mut [[0; 64]; 126]),
+        1..=2 => first_clash::<D, 2>(domain, table, &kinds, &tests),
+        3..=8 => first_clash::<D, 8>(domain, table, &kinds, &tests),
+        _ => first_clash::<D, 126>(domain, table, &kinds, &tests),
     }
 }
 
@@ -35,24 +34,9 @@ fn clash<D: Domain>(table: &Table, domain: &D) -> Option<CheckFault>
 pub fn check<D: Domain>(table: &Table, domain: &D) -> Result<(), CheckFault>
     ensures { MatchResult result (λ _. Passes (D.meaning domain.now).classes (grammar table.now.draft)) (λ f. Refused (D.meaning domain.now).classes (grammar table.now.draft) (refusal f) (values f)) }
 {
-    let classes = domain.classes();
-    if classes > 64 {
-        return Err(CheckFault::ManyClasses { classes });
-    }
-    match clash(table, domain) {
-        Some(clash) => Err(clash),
+    let domain = Testable::of(domain)?;
+    match clash(table, &domain) {
+        Some(clash) => Err(CheckFault::TwoClash(clash)),
         None => Ok(()),
-    }
-}
-
-impl CheckFault {
-    // The refusal's number.
-    pub fn number(self) -> u8
-        ensures { result ≡ refusal self }
-    {
-        match self {
-            CheckFault::ManyClasses { .. } => 10,
-            CheckFault::TwoClash { .. } => 11,
-        }
     }
 }

@@ -1,4 +1,4 @@
--- A domain of 64 classes whose test n says yes where two classes add up to n - 1. Assumes nothing.
+-- A domain of 64 classes whose test n says yes where two classes add up to n - 1.
 use Rattle.std.specs.Prelude.{ℕ, ◌+◌, ◌%◌, true, ◌||◌, None, ◌==◌}
 use Rattle.std.proofs.Common.{rules}
 use Rattle.domain.specs.Meaning.{Meaning, Lawful}

@@ -1,5 +1,6 @@
 // The bytes of a case, one after the other.
-use anyhow::anyhow;
+use anyhow::{Context, ensure};
+use case_reader::numbers::Numbers;
 
 // Bytes that are still to be read.
 #[derive(Drop)]
@@ -12,36 +13,34 @@ impl<'a> Bytes<'a> {
         Bytes { bytes }
     }
 
-    pub(crate) fn byte(&mut self) -> anyhow::Result<u8> {
-        match self.bytes {
-            [] => Err(anyhow!("the case ends too early")),
-            [byte, rest @ ..] => {
-                self.bytes = rest;
-                Ok(*byte)
-            }
-        }
-    }
-
-    // A number of two bytes, the high byte first.
-    pub(crate) fn short(&mut self) -> anyhow::Result<u16> {
-        Ok(u16::from_be_bytes([self.byte()?, self.byte()?]))
-    }
-
-    // A number of eight bytes, the high byte first.
-    pub(crate) fn long(&mut self) -> anyhow::Result<u64> {
-        let mut bytes = [0; 8];
-        for i in 0..8 {
-            bytes[i] = self.byte()?;
-        }
-        Ok(u64::from_be_bytes(bytes))
+    // So many bytes from the front.
+    fn take<const N: usize>(&mut self) -> anyhow::Result<[u8; N]> {
+        let (front, rest) = self
+            .bytes
+            .split_first_chunk()
+            .context("the case ends too early")?;
+        self.bytes = rest;
+        Ok(*front)
     }
 
     // Nothing may be left.
     pub(crate) fn end(&self) -> anyhow::Result<()> {
-        if self.bytes.is_empty() {
-            Ok(())
-        } else {
-            Err(anyhow!("the case goes on too long"))
-        }
+        ensure!(self.bytes.is_empty(), "the case goes on too long");
+        Ok(())
+    }
+}
+
+// Numbers as wide as they may be, the high byte first.
+impl Numbers for Bytes<'_> {
+    fn byte(&mut self) -> anyhow::Result<u8> {
+        Ok(u8::from_be_bytes(self.take()?))
+    }
+
+    fn short(&mut self) -> anyhow::Result<u16> {
+        Ok(u16::from_be_bytes(self.take()?))
+    }
+
+    fn long(&mut self) -> anyhow::Result<u64> {
+        Ok(u64::from_be_bytes(self.take()?))
     }
 }

@@ -2,14 +2,15 @@
 #![tactic(auto)]
 
 mod bytes;
-mod cases;
 mod sums;
 
-use analysis::faults::CheckFault;
+use analysis::faults::{CheckFault, Clash};
 use analysis::verdict::check;
-use anyhow::anyhow;
+use anyhow::{anyhow, bail};
 use bytes::Bytes;
-use cases::{read_draft, read_minutes};
+use case_reader::domains::read_minutes;
+use case_reader::drafts::read_draft;
+use case_reader::numbers::Numbers;
 use domain::Domain;
 use domain::posts::Posts;
 use std::alloc::Global;
@@ -18,20 +19,21 @@ use sums::Sums;
 // What bytes give that are no case.
 const NO_CASE: u64 = 1 << 41;
 
-// A verdict as a number: 0 where the table passes, and 2^40 and the five numbers of a clash, a byte each.
+// A verdict as a number, since C has no Result: 0 where the table passes, and 2^40 and the five numbers of a clash, a byte each.
 fn number(verdict: Result<(), CheckFault>) -> u64 {
     match verdict {
         Ok(()) => 0,
         Err(CheckFault::ManyClasses { .. }) => NO_CASE,
-        Err(
-            CheckFault::TwoClash {
+        Err(CheckFault::TwoClash(clash)) => {
+            let Clash {
                 a,
                 b,
                 kind,
                 inherited,
                 word,
-            },
-        ) => u64::from_be_bytes([0, 0, 1, a, b, kind, inherited, word]),
+            } = clash;
+            u64::from_be_bytes([0, 0, 1, a, b, kind, inherited, word])
+        }
     }
 }
 
@@ -43,38 +45,34 @@ fn sum<D: Domain>(
     runs: u32,
 ) -> anyhow::Result<u64> {
     let draft = read_draft(heap, from)?;
-    if draft.review().is_err() {
-        return Err(anyhow!("the table is refused"));
-    }
+    from.end()?;
+    draft.review().map_err(|_| anyhow!("the table is refused"))?;
     let table = draft.make();
-    let mut sum = 0u64;
-    for _ in 0..runs {
-        sum = sum.wrapping_add(number(check(&table, domain)));
-    }
-    Ok(sum)
+    Ok((0..runs).fold(
+        0,
+        |sum: u64, _| sum.wrapping_add(number(check(&table, domain))),
+    ))
 }
 
+// The cases of sets choose a domain so too: a function of both would need a trait whose method is generic over domains, no plainer.
 fn case_sum(heap: Global, bytes: &[u8], runs: u32) -> anyhow::Result<u64> {
     let mut from = Bytes::new(bytes);
     match from.byte()? {
         1 => {
-            let minutes = read_minutes(heap, &mut from)?;
+            let minutes = read_minutes(heap, &mut from)?.map_err(|_| anyhow!("no such Minutes"))?;
             sum(heap, &mut from, &minutes, runs)
         }
-        2 => match Posts::new(from.byte()?) {
-            Ok(posts) => sum(heap, &mut from, &posts, runs),
-            Err(_) => Err(anyhow!("no such Posts")),
-        },
+        2 => {
+            let posts = Posts::new(from.byte()?).map_err(|_| anyhow!("no such Posts"))?;
+            sum(heap, &mut from, &posts, runs)
+        }
         3 => sum(heap, &mut from, &Sums, runs),
-        _ => Err(anyhow!("no such domain")),
+        _ => bail!("no such domain"),
     }
 }
 
 // Tests the case so many times, and gives the sum of the verdicts.
 #[unsafe(no_mangle)]
 pub extern "C" fn check_case(heap: Global, bytes: &[u8], runs: u32) -> u64 {
-    match case_sum(heap, bytes, runs) {
-        Ok(sum) => sum,
-        Err(_) => NO_CASE,
-    }
+    case_sum(heap, bytes, runs).unwrap_or(NO_CASE)
 }

@@ -1,128 +1,104 @@
 // Questions to Minutes and Posts.
-use crate::numbers::{CaseError, next_letters, number, number8, number16};
-use domain::minutes::Minutes;
+use crate::answers::Answer;
+use crate::words::Words;
+use anyhow::{Context, anyhow, bail};
+use case_reader::domains::read_minutes;
+use case_reader::numbers::Numbers;
 use domain::posts::{PostSet, Posts};
 use domain::{Domain, DomainFault};
 use std::alloc::Global;
-use text::cursor::Cursor;
 
-// What a case asks of a domain, with values as the case writes them.
+// A value as a case writes it.
+#[derive(Clone, Copy)]
+struct Written(u16);
+
+// Never refused: the conversion is what `ask` wants of every type of value.
+impl TryFrom<Written> for u16 {
+    type Error = anyhow::Error;
+
+    fn try_from(value: Written) -> anyhow::Result<u16> {
+        Ok(value.0)
+    }
+}
+
+impl TryFrom<Written> for PostSet {
+    type Error = anyhow::Error;
+
+    fn try_from(value: Written) -> anyhow::Result<PostSet> {
+        PostSet::try_from(u8::try_from(value.0)?).map_err(|_| anyhow!("no such set of posts"))
+    }
+}
+
+// What a case asks of a domain.
 #[derive(Clone, Copy)]
 enum Question {
     Classes,
     Opening,
-    Class(u16),
-    Rule(u8, u16, u16),
-    Check(u8, u16, u16),
+    Class(Written),
+    Rule(u8, Written, Written),
+    Check(u8, Written, Written),
     Test(u8, u16, u16),
     Number(u16),
 }
 
-fn read_question(cases: &mut Cursor<'_>) -> Result<Question, CaseError> {
-    match next_letters(cases)? {
+fn read_value(words: &mut Words<'_>) -> anyhow::Result<Written> {
+    Ok(Written(words.short()?))
+}
+
+fn read_question(words: &mut Words<'_>) -> anyhow::Result<Question> {
+    match words.name().context("no question")? {
         b"classes" => Ok(Question::Classes),
         b"opening" => Ok(Question::Opening),
-        b"class" => Ok(Question::Class(number16(cases)?)),
-        b"rule" => Ok(Question::Rule(number8(cases)?, number16(cases)?, number16(cases)?)),
-        b"check" => Ok(Question::Check(number8(cases)?, number16(cases)?, number16(cases)?)),
-        b"test" => Ok(Question::Test(number8(cases)?, number16(cases)?, number16(cases)?)),
-        b"number" => Ok(Question::Number(number16(cases)?)),
-        _ => Err(CaseError::Malformed),
+        b"class" => Ok(Question::Class(read_value(words)?)),
+        b"rule" => Ok(Question::Rule(words.byte()?, read_value(words)?, read_value(words)?)),
+        b"check" => Ok(Question::Check(words.byte()?, read_value(words)?, read_value(words)?)),
+        b"test" => Ok(Question::Test(words.byte()?, words.short()?, words.short()?)),
+        b"number" => Ok(Question::Number(words.short()?)),
+        _ => bail!("no such question"),
     }
 }
 
-// What a domain answers.
-#[derive(Clone, Copy)]
-enum Answer {
-    Number(u16),
-    Told(bool),
-    None,
-}
-
-// A value as a case writes it.
-trait Written: Copy {
-    fn read(number: u16) -> Option<Self>;
-
-    fn written(self) -> u16;
-}
-
-impl Written for u16 {
-    fn read(number: u16) -> Option<u16> {
-        Some(number)
-    }
-
-    fn written(self) -> u16 {
-        self
-    }
-}
-
-impl Written for PostSet {
-    fn read(number: u16) -> Option<PostSet> {
-        PostSet::new(u8::try_from(number).ok()?)
-    }
-
-    fn written(self) -> u16 {
-        u16::from(self.bits())
-    }
-}
-
-// What the domain answers; none where a value is none of its own.
-fn ask<V: Written, D: Domain<Value = V>>(domain: &D, question: Question) -> Option<Answer> {
-    Some(match question {
-        Question::Classes => Answer::Number(domain.classes()),
-        Question::Opening => Answer::Number(domain.opening().written()),
-        Question::Class(value) => Answer::Number(domain.class(V::read(value)?)),
-        Question::Rule(rule, first, second) => Answer::Number(
-            domain
-                .rule(rule, V::read(first)?, V::read(second)?)
-                .written(),
-        ),
-        Question::Check(check, first, second) => Answer::Told(domain.check(
-            check,
-            V::read(first)?,
-            V::read(second)?,
-        )),
-        Question::Test(test, inherited, word) => Answer::Told(domain.test(test, inherited, word)),
-        Question::Number(number) => match domain.number(number) {
-            Some(value) => Answer::Number(value.written()),
-            None => Answer::None,
-        },
+// What the domain answers; an error where a value is none of its own.
+fn ask<D: Domain>(domain: &D, question: Question) -> anyhow::Result<Answer>
+where
+    D::Value: TryFrom<Written, Error = anyhow::Error> + Into<Answer>,
+{
+    Ok(match question {
+        Question::Classes => domain.classes().into(),
+        Question::Opening => domain.opening().into(),
+        Question::Class(value) => domain.class(value.try_into()?).into(),
+        Question::Rule(rule, first, second) => domain
+            .rule(rule, first.try_into()?, second.try_into()?)
+            .into(),
+        Question::Check(check, first, second) => domain
+            .check(check, first.try_into()?, second.try_into()?)
+            .into(),
+        Question::Test(test, inherited, word) => domain.test(test, inherited, word).into(),
+        Question::Number(number) => domain
+            .number(number)
+            .map_or(Answer::None, |value| value.into()),
     })
 }
 
-fn line(answer: Option<Answer>, heap: Global) -> Result<String, CaseError> {
-    match answer {
-        Some(Answer::Number(number)) => Ok(format!(in heap; "{number}")?),
-        Some(Answer::Told(true)) => Ok(String::from_str(heap, "yes")?),
-        Some(Answer::Told(false)) => Ok(String::from_str(heap, "no")?),
-        Some(Answer::None) => Ok(String::from_str(heap, "none")?),
-        None => Err(CaseError::Malformed),
+// The answer of a domain to the question that follows, or the domain's refusal.
+fn answer<D: Domain + Drop>(
+    domain: Result<D, DomainFault>,
+    words: &mut Words<'_>,
+) -> anyhow::Result<Answer>
+where
+    D::Value: TryFrom<Written, Error = anyhow::Error> + Into<Answer>,
+{
+    let question = read_question(words)?;
+    match domain {
+        Ok(domain) => ask(&domain, question),
+        Err(fault) => Ok(fault.into()),
     }
 }
 
-fn refused(fault: DomainFault, heap: Global) -> Result<String, CaseError> {
-    let number = fault.number();
-    Ok(format!(in heap; "refused {number}")?)
+pub(crate) fn minutes_case(heap: Global, words: &mut Words<'_>) -> anyhow::Result<Answer> {
+    answer(read_minutes(heap, words)?, words)
 }
 
-pub(crate) fn minutes_case(cases: &mut Cursor<'_>, heap: Global) -> Result<String, CaseError> {
-    let limit = number16(cases)?;
-    let mut cuts = Vec::new(heap);
-    for _ in 0..number(cases)? {
-        cuts.push(number16(cases)?)?;
-    }
-    let question = read_question(cases)?;
-    match Minutes::new(limit, cuts) {
-        Ok(minutes) => line(ask(&minutes, question), heap),
-        Err(fault) => refused(fault, heap),
-    }
-}
-
-pub(crate) fn posts_case(cases: &mut Cursor<'_>, heap: Global) -> Result<String, CaseError> {
-    let count = number8(cases)?;
-    let question = read_question(cases)?;
-    match Posts::new(count) {
-        Ok(posts) => line(ask(&posts, question), heap),
-        Err(fault) => refused(fault, heap),
-    }
+pub(crate) fn posts_case(words: &mut Words<'_>) -> anyhow::Result<Answer> {
+    answer(Posts::new(words.byte()?), words)
 }

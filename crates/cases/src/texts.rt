@@ -1,64 +1,64 @@
 // Texts cut into words, and sheets read with the held table.
-use crate::numbers::{CaseError, bytes, number};
-use domain::Domain;
+use crate::answers::Answer;
+use crate::words::Words;
+use anyhow::anyhow;
+use case_reader::numbers::Numbers;
 use held::domains::held_minutes;
 use held::drafts::held_draft;
-use held::lines::sheet_line;
+use held::lines::SheetLine;
 use std::alloc::Global;
+use std::fmt::Write;
 use text::cursor::Cursor;
 use text::words::Word;
 
 // More words than this are not told.
-const MOST_WORDS: u32 = 10_000;
+const MOST_WORDS: usize = 10_000;
 
-fn told(word: &Word<'_>, heap: Global) -> Result<String, CaseError> {
-    let (case, run) = match word {
-        Word::Number(run) => ('N', run),
-        Word::Spelled(run) => ('S', run),
+// Whether the word is a number, its place and its length.
+fn write_word(line: &mut String, word: &Word<'_>) -> anyhow::Result<()> {
+    let case = match word {
+        Word::Number(_) => 'N',
+        Word::Spelled(_) => 'S',
     };
-    let place = run.place;
-    let length = run.letters.len();
-    Ok(format!(in heap; "{case} {place} {length}")?)
+    write!(line, "{case} {} {}", word.place(), word.run().letters.len())?;
+    Ok(())
 }
 
-pub(crate) fn text_case(cases: &mut Cursor<'_>, heap: Global) -> Result<String, CaseError> {
-    let text = bytes(cases, heap)?;
-    let mut words = Cursor::new(&text);
+pub(crate) fn text_case(heap: Global, words: &mut Words<'_>) -> anyhow::Result<Answer> {
+    let text = words.bytes(heap)?;
+    let mut cursor = Cursor::new(&text);
     let mut line = String::new(heap);
-    for _ in 0..MOST_WORDS {
-        let Some(word) = words.next() else {
+    while let Some(word) = cursor.next() {
+        if cursor.count() > MOST_WORDS {
             break;
-        };
+        }
         if !line.is_empty() {
             line.push_str(" ")?;
         }
-        line.push_str(&told(&word, heap)?)?;
+        write_word(&mut line, &word)?;
     }
     if line.is_empty() {
-        line.push_str("none")?;
+        return Ok(Answer::None);
     }
-    Ok(line)
+    Ok(Answer::Words(line))
 }
 
-pub(crate) fn sheet_case(cases: &mut Cursor<'_>, heap: Global) -> Result<String, CaseError> {
-    let text = bytes(cases, heap)?;
-    read_sheet(&text, heap)
+pub(crate) fn sheet_case(heap: Global, words: &mut Words<'_>) -> anyhow::Result<Answer> {
+    read_sheet(heap, &words.bytes(heap)?)
 }
 
 // A sheet of so many spaces.
-pub(crate) fn blank_case(cases: &mut Cursor<'_>, heap: Global) -> Result<String, CaseError> {
-    let mut text = Vec::new(heap);
-    for _ in 0..number(cases)? {
-        text.push(b' ')?;
-    }
-    read_sheet(&text, heap)
+pub(crate) fn blank_case(heap: Global, words: &mut Words<'_>) -> anyhow::Result<Answer> {
+    let count = usize::try_from(words.count()?)?;
+    read_sheet(heap, &vec![in heap; b' '; count]?)
 }
 
-fn read_sheet(text: &[u8], heap: Global) -> Result<String, CaseError> {
+fn read_sheet(heap: Global, text: &[u8]) -> anyhow::Result<Answer> {
     let draft = held_draft(heap)?;
-    if draft.review().is_err() {
-        return Err(CaseError::Malformed);
-    }
+    draft
+        .review()
+        .map_err(|_| anyhow!("the held table is refused"))?;
     let table = draft.make();
-    Ok(sheet_line(text, &table, &held_minutes(heap), heap)?)
+    let line = SheetLine::of(text, &table, &held_minutes(heap), heap)?;
+    Ok(Answer::Sheet(line))
 }

@@ -1,4 +1,4 @@
--- A choice by number, written as a list of cases. Assumes nothing.
+-- A choice by number, written as a list of cases.
 use Rattle.std.specs.Prelude.{ℕ, cond, ◌==◌}
 
 -- `n is k then x else y` is x where n is k, else y

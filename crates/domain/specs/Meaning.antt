@@ -1,4 +1,4 @@
--- What a domain means: the values that the symbols of a table carry. Assumes nothing.
+-- What a domain means: the values that the symbols of a table carry.
 use Rattle.std.specs.Prelude.{◌≡◌, ℕ, ◌^◌, ◌<◌, Bool, true, Option}
 
 -- The classes of values and the tests on them: all that the strong test of a table asks of a domain.

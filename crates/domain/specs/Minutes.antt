@@ -1,12 +1,11 @@
--- Minutes up to a limit, told apart by cuts. Assumes nothing.
-use Rattle.std.specs.Prelude.{ℕ, ◌+◌, ◌-◌, min, Bool, true, false, cond, not, ◌&&◌, ltb, leb, List, [], ◌∷◌, length, Some, None, ◌==◌, nat_eq, nat_le, nat_lt}
+-- Minutes up to a limit, told apart by cuts.
+use Rattle.std.specs.Prelude.{ℕ, ◌+◌, ◌-◌, min, Bool, true, false, cond, not, ◌&&◌, ltb, leb, List, length, count_by, Some, None, ◌==◌, nat_eq, nat_le, nat_lt}
 use Rattle.domain.specs.Choose.{◌is◌then◌else◌}
 use Rattle.domain.specs.Meaning.{Meaning}
 
 -- how many cuts lie at or below the value
 abbrev pub cuts_within : List ℕ → ℕ → ℕ
-cuts_within [] value = 0
-cuts_within (cut ∷ cuts) value = cond (nat_le cut value) 1 0 + cuts_within cuts value
+cuts_within cuts value = count_by (λ cut. nat_le cut value) cuts
 
 abbrev pub minutes_rule : ℕ → ℕ → ℕ → ℕ → ℕ
 minutes_rule limit number first second =

@@ -1,4 +1,4 @@
--- Sets of charging posts. Assumes nothing.
+-- Sets of charging posts.
 use Rattle.std.specs.Prelude.{ℕ, ◌%◌, ◌^◌, Bool, true, false, cond, not, ◌&&◌, Some, None, ◌==◌, bit_and, bit_or, bit_xor, nat_eq, nat_lt}
 use Rattle.std.proofs.Common.{lit<}
 use Rattle.std.proofs.lemmas.Nat.{mod_below}

@@ -1,4 +1,4 @@
--- The numbers of refusals. Assumes nothing.
+-- The numbers of refusals.
 use Rattle.std.specs.Prelude.{ℕ}
 use Rattle.domain.specs.declared.DomainFault.{DomainFault}
 use Rattle.domain.specs.declared.DomainFault.TheVariants.{OutsideSizes}

@@ -1,4 +1,4 @@
--- The sizes in which Minutes and Posts can be made. Assumes nothing.
+-- The sizes in which Minutes and Posts can be made.
 use Rattle.std.specs.Prelude.{ℕ, Bool, true, ◌&&◌, List, [], ◌∷◌, length, nat_le, nat_lt}
 
 -- the cuts rise strictly, from above `low` up to the limit

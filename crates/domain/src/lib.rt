@@ -53,7 +53,7 @@ pub enum DomainFault {
 }
 
 impl DomainFault {
-    // The refusal's number.
+    // The refusal's number. A method, since `u8::from` would not say which number.
     pub fn number(self) -> u8
         ensures { result ≡ refusal self }
     {

@@ -1,5 +1,5 @@
 // Minutes up to a limit, told apart by cuts.
-ghost use Rattle.std.specs.Prelude.{◌≡◌, true, false, MatchResult};
+ghost use Rattle.std.specs.Prelude.{◌≡◌, ◌↔◌, true, IsOk, IfOk, IfErr};
 ghost use Rattle.domain.specs.Minutes.{minutes};
 ghost use Rattle.domain.specs.Sizes.{minutes_sized, rising};
 ghost use Rattle.domain.specs.Laws.{minutes_lawful};
@@ -7,7 +7,7 @@ ghost use Rattle.domain.specs.Laws.{minutes_lawful};
 use crate::{Domain, DomainFault};
 
 // A limit from 1 to 65,535 and up to seven cuts, strictly rising, each from 1 to the limit.
-#[derive(Drop)]
+#[derive(Drop, PartialEq, Eq, Debug)]
 pub struct Minutes {
     limit: u16,
     cuts: Vec<u16>,
@@ -17,7 +17,11 @@ pub struct Minutes {
 impl Minutes {
     // Minutes of this limit and these cuts, or a refusal where they are outside the sizes.
     pub fn new(limit: u16, cuts: Vec<u16>) -> Result<Minutes, DomainFault>
-        ensures { MatchResult result (λ d. (minutes_sized limit cuts.items ≡ true) × (d.limit ≡ limit) × (d.cuts ≡ cuts)) (λ f. (minutes_sized limit cuts.items ≡ false) × (f ≡ DomainFault.OutsideSizes)) }
+        ensures made { IsOk result ↔ (minutes_sized limit cuts.items ≡ true) }
+        ensures limit { IfOk result (λ d. d.limit ≡ limit) }
+        ensures cuts { IfOk result (λ d. d.cuts ≡ cuts) }
+        ensures meaning { IfOk result (λ d. ⟦<Minutes as Domain>⟧.meaning d ≡ minutes limit cuts.items) }
+        ensures refused { IfErr result (λ fault. fault ≡ DomainFault.OutsideSizes) }
     {
         if limit > 0 && cuts.len() <= 7 && rise(limit, &cuts) {
             Ok(Minutes { limit, cuts })
@@ -28,15 +32,16 @@ impl Minutes {
 }
 
 // Whether the cuts rise strictly, each from 1 to the limit.
+// A loop, since a chain would have to carry the last cut along: no plainer.
 fn rise(limit: u16, cuts: &[u16]) -> bool
     ensures { result ≡ rising 0 limit cuts.now }
 {
     let mut low = 0;
-    for cut in cuts {
-        if *cut <= low || *cut > limit {
+    for &cut in cuts {
+        if cut <= low || cut > limit {
             return false;
         }
-        low = *cut;
+        low = cut;
     }
     true
 }
@@ -57,13 +62,7 @@ impl Domain for Minutes {
     }
 
     fn class(&self, value: u16) -> u16 {
-        let mut class = 0;
-        for cut in self.cuts.iter() {
-            if *cut <= value {
-                class += 1;
-            }
-        }
-        class
+        self.cuts.iter().filter(|cut| **cut <= value).count() as u16
     }
 
     fn rule(&self, number: u8, first: u16, second: u16) -> u16 {
@@ -84,6 +83,7 @@ impl Domain for Minutes {
         }
     }
 
+    // Posts have the arm on classes too: to share it, the other arms would have to be a closure, no plainer.
     fn test(&self, number: u8, inherited: u16, word: u16) -> bool {
         let classes = self.classes();
         match number {

@@ -1,4 +1,4 @@
--- The table that the program holds. Assumes nothing.
+-- The table that the program holds.
 use Rattle.std.specs.Prelude.{◌≡◌, ℕ, List, [], ◌∷◌, map, codes}
 use Rattle.table.specs.declared.drafts.Draft.{Draft}
 use Rattle.table.specs.declared.drafts.Spelling.{Spelling}

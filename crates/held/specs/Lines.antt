@@ -1,4 +1,4 @@
--- The line that tells what came of a sheet. Assumes nothing.
+-- The line that tells what came of a sheet.
 use Rattle.std.specs.Prelude.{ℕ, List, ◌∷◌, ◌++◌, Ok, Err, codes, decimal, Result}
 use Rattle.std.specs.List.{flat_map}
 use Rattle.sheet.specs.declared.faults.Denial.{Denial}

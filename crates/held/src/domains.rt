@@ -9,8 +9,5 @@ use std::alloc::Global;
 pub fn held_minutes(heap: Global) -> Minutes
     ensures { minutes result.limit result.cuts.items ≡ minutes 1440 [] }
 {
-    match Minutes::new(1440, Vec::new(heap)) {
-        Ok(minutes) => minutes,
-        Err(_) => unreachable(),
-    }
+    Minutes::new(1440, Vec::new(heap)).unwrap()
 }

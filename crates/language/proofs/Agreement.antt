@@ -1,4 +1,4 @@
--- The law. Assumes nothing.
+-- The law.
 use Rattle.std.proofs.Common.{◌≡◌, List, [], ◌∷◌, ◌++◌, Ok, Err, Result, sym, refl, ◌∙◌, subst}
 use Rattle.domain.specs.Meaning.{Meaning, Lawful}
 use Rattle.analysis.specs.Clashes.{ClashFree}

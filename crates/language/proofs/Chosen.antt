@@ -1,4 +1,4 @@
--- The first suitable production of a list, and the only one. Assumes nothing.
+-- The first suitable production of a list, and the only one.
 use Rattle.std.proofs.Common.{◌≡◌, ℕ, suc, ◌+◌, Bool, true, false, cond, ◌⊎◌, List, [], ◌∷◌, Some, sym, refl, ap, ◌∙◌, subst, inl, inr, arith}
 use Rattle.std.proofs.lemmas.Bool.{cond-true, cond-false, cases_Bool}
 use Rattle.table.specs.Grammar.{Production}

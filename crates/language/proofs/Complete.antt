@@ -1,4 +1,4 @@
--- What is derived, a reader does: one word of sight decides. Assumes nothing.
+-- What is derived, a reader does: one word of sight decides.
 use Rattle.std.proofs.Common.{◌≡◌, ℕ, zero, suc, ◌+◌, ◌<◌, ◌≤◌, Bool, true, ◌&&◌, eqb, leb, ◌⊎◌, List, [], ◌∷◌, ◌++◌, length, Some, Ok, Result, sym, refl, ap, ◌∙◌, subst, inl, inr, arith}
 use Rattle.std.proofs.lemmas.Bool.{and_parts, and_from, eq-eqb, lt-leb, cond-true, cond-false, cases_order}
 use Rattle.domain.specs.Meaning.{Meaning, Lawful}

@@ -1,4 +1,4 @@
--- The kind in sight that a derivation meets at last lies in the Predict set of each production that it predicts before. Assumes nothing.
+-- The kind in sight that a derivation meets at last lies in the Predict set of each production that it predicts before.
 use Rattle.std.proofs.Common.{◌≡◌, ℕ, ◌⊎◌, List, [], ◌∷◌, ◌++◌, Some, None, Option, sym, subst, inl, inr}
 use Rattle.domain.specs.Meaning.{Meaning}
 use Rattle.table.specs.declared.drafts.Item.{Item}

@@ -1,4 +1,4 @@
--- Predicting and taking keep configurations good. Assumes nothing.
+-- Predicting and taking keep configurations good.
 use Rattle.std.proofs.Common.{◌≡◌, ℕ, true, List, [], ◌∷◌, ◌++◌, Some, None, Option, sym, subst}
 use Rattle.std.proofs.lemmas.Bool.{and_parts, eqb-true}
 use Rattle.domain.specs.Meaning.{Meaning}

@@ -1,4 +1,4 @@
--- Two productions of a written table; the kinds in it. Assumes nothing.
+-- Two productions of a written table; the kinds in it.
 use Rattle.std.proofs.Common.{◌≡◌, ℕ, zero, suc, ◌<◌, Bool, true, ◌&&◌, ltb, List, [], ◌∷◌, arith}
 use Rattle.std.proofs.lemmas.Bool.{and_parts, ltb-true}
 use Rattle.table.specs.declared.drafts.Item.{Item}

@@ -1,4 +1,4 @@
--- Where a run of items comes to by itself, it has passed only checks. Assumes nothing.
+-- Where a run of items comes to by itself, it has passed only checks.
 use Rattle.std.proofs.Common.{ℕ, Bool, true, false, cond, List, [], ◌∷◌, ◌++◌}
 use Rattle.domain.specs.Meaning.{Meaning}
 use Rattle.table.specs.declared.drafts.Item.{Item}

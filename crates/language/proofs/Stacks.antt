@@ -1,4 +1,4 @@
--- What the open productions of a derivation are. Assumes nothing.
+-- What the open productions of a derivation are.
 use Rattle.std.proofs.Common.{ℕ, suc, List, [], ◌∷◌}
 use Rattle.table.specs.declared.drafts.Item.{Item}
 use Rattle.table.specs.declared.drafts.Item.TheVariants.{Kind, Nonterminal}

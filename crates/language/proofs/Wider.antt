@@ -1,4 +1,4 @@
--- What is derived within limits is derived within wider ones. Assumes nothing.
+-- What is derived within limits is derived within wider ones.
 use Rattle.std.proofs.Common.{ℕ, zero, suc, ◌≤◌, max, List, arith}
 use Rattle.domain.specs.Meaning.{Meaning}
 use Rattle.table.specs.Grammar.{Production}

@@ -1,4 +1,4 @@
--- Derivations of words one after another. Assumes nothing.
+-- Derivations of words one after another.
 use Rattle.std.proofs.Common.{List, [], ◌∷◌, ◌++◌, subst}
 use Rattle.domain.specs.Meaning.{Meaning}
 use Rattle.table.specs.Grammar.{Production}

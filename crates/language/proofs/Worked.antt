@@ -1,4 +1,4 @@
--- The worked cases. Assumes nothing.
+-- The worked cases.
 use Rattle.std.proofs.Common.{◌≡◌, ℕ, zero, suc, ◌<◌, Bool, true, false, eqb, ◌⊎◌, ◌↔◌, List, [], ◌∷◌, get_or, sym, refl, subst, inl, inr, arith}
 use Rattle.std.proofs.lemmas.Bool.{false≢true, both_ways, not-true, and_parts, or_cases, eqb-true}
 use Rattle.table.specs.Grammar.{Production}

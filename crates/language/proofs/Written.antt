@@ -1,4 +1,4 @@
--- Sets that are written out: where they meet the rules, they hold the smallest sets that do. Assumes nothing.
+-- Sets that are written out: where they meet the rules, they hold the smallest sets that do.
 use Rattle.std.proofs.Common.{◌≡◌, ℕ, Bool, true, false, cond, ◌&&◌, ◌||◌, eqb, ◌⊎◌, List, [], ◌∷◌, ◌++◌, sym, refl, ◌∙◌, subst, inl, inr}
 use Rattle.std.proofs.lemmas.Bool.{false≢true, and_parts, and_from, or_left, or_right, or_cases, eqb-true, eq-eqb, cond-true}
 use Rattle.table.specs.declared.drafts.Item.{Item}

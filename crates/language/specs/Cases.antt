@@ -1,4 +1,4 @@
--- Sheets worked by hand. Assumes nothing.
+-- Sheets worked by hand.
 use Rattle.std.specs.Prelude.{◌≡◌, ℕ, ◌<◌, ◌⊎◌, ◌↔◌, List, [], ◌∷◌, map, Some, None, Ok, Err, Option, Result}
 use Rattle.domain.specs.Meaning.{Meaning}
 use Rattle.domain.specs.Minutes.{minutes}

@@ -1,4 +1,4 @@
--- Where a derivation or a reading stands. Assumes nothing.
+-- Where a derivation or a reading stands.
 use Rattle.std.specs.Prelude.{ℕ, List, []}
 use Rattle.domain.specs.Meaning.{Meaning}
 use Rattle.table.specs.declared.drafts.Item.{Item}

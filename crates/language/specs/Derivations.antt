@@ -1,4 +1,4 @@
--- What a table derives. No Predict set occurs here: a derivation may go on by any production that the table allows. Assumes nothing.
+-- What a table derives. No Predict set occurs here: a derivation may go on by any production that the table allows.
 use Rattle.std.specs.Prelude.{◌≡◌, ℕ, suc, ◌<◌, Bool, true, ◌&&◌, List, [], ◌∷◌, ◌++◌, length, Some, ◌==◌}
 use Rattle.domain.specs.Meaning.{Meaning}
 use Rattle.table.specs.Grammar.{Production}

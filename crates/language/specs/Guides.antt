@@ -1,4 +1,4 @@
--- What a reader has of a made table. Assumes nothing.
+-- What a reader has of a made table.
 use Rattle.std.specs.Prelude.{◌≡◌, ℕ, true, List, slice_index}
 use Rattle.table.specs.declared.drafts.Draft.{Draft}
 use Rattle.table.specs.Grammar.{grammar}

@@ -1,4 +1,4 @@
--- The law: what a reader reads is what the table derives, in one way. Assumes nothing.
+-- The law: what a reader reads is what the table derives, in one way.
 use Rattle.std.specs.Prelude.{◌≡◌, ℕ, ◌<◌, ◌≤◌, true, ◌↔◌, List, [], ◌∷◌, ◌++◌, Ok, Err, Result}
 use Rattle.domain.specs.Meaning.{Meaning, Lawful}
 use Rattle.table.specs.declared.drafts.Item.TheVariants.{Kind}

@@ -1,4 +1,4 @@
--- How much a derivation may use. Assumes nothing.
+-- How much a derivation may use.
 use Rattle.std.specs.Prelude.{ℕ}
 
 -- A derivation is finite, so each is within some limits: what holds under any limits holds of every derivation.

@@ -1,4 +1,4 @@
--- What a reader does: it goes on by the one production that a word of sight decides. Assumes nothing.
+-- What a reader does: it goes on by the one production that a word of sight decides.
 use Rattle.std.specs.Prelude.{ℕ, zero, suc, Bool, cond, ◌&&◌, List, [], ◌∷◌, ◌++◌, length, Some, None, Ok, Err, Option, Result, ◌==◌, nat_le}
 use Rattle.domain.specs.Meaning.{Meaning}
 use Rattle.table.specs.Grammar.{Production}

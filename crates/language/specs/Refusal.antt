@@ -1,4 +1,4 @@
--- The numbers of refusals. Assumes nothing.
+-- The numbers of refusals.
 use Rattle.std.specs.Prelude.{ℕ}
 use Rattle.language.specs.declared.faults.ReadingFault.{ReadingFault}
 use Rattle.language.specs.declared.faults.ReadingFault.TheVariants.{UnknownKind, NothingOutstanding, NoProduction, TooManyPredictions, TooManyOpen, TrailFull, OtherKind, CheckSaysNo}

@@ -1,4 +1,4 @@
--- Lists of calls on one reading. Assumes nothing.
+-- Lists of calls on one reading.
 use Rattle.std.specs.Prelude.{List, [], ◌∷◌, ◌++◌, Ok, Err, Result}
 use Rattle.domain.specs.Meaning.{Meaning}
 use Rattle.language.specs.declared.faults.ReadingFault.{ReadingFault}
@@ -16,7 +16,7 @@ pub data Reading (V : Type 0) : Type 0 where
   an_open : List (Word V) → Config V → Reading V
   a_closed : Outcome V → Reading V
 
--- the reading that begin or a restart gives
+-- the reading that is new, or restarted
 abbrev pub new : {V : Type 0} → Meaning V → Reading V
 new m = an_open [] (start m)
 

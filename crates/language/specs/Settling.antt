@@ -1,4 +1,4 @@
--- Settling: what follows by itself when a slot has been filled. Assumes nothing.
+-- Settling: what follows by itself when a slot has been filled.
 use Rattle.std.specs.Prelude.{ℕ, Bool, cond, List, [], ◌∷◌, ◌++◌, Some, None, Option, slice_index_or}
 use Rattle.domain.specs.Meaning.{Meaning}
 use Rattle.table.specs.declared.drafts.Item.{Item}

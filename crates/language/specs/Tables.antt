@@ -1,4 +1,4 @@
--- Three tables worked by hand: W, Q and S. Assumes nothing.
+-- Three tables worked by hand: W, Q and S.
 use Rattle.std.specs.Prelude.{ℕ, Bool, false, not, ◌&&◌, ◌||◌, List, [], ◌∷◌, ◌==◌, nat_le, slice_index_or}
 use Rattle.table.specs.declared.drafts.Item.TheVariants.{Kind, Nonterminal}
 use Rattle.table.specs.declared.drafts.Operation.{Operation}

@@ -10,6 +10,7 @@ pub fn one_language<D: Domain>(domain: &D)
 {}
 
 // Names the theorem that every made table is one that the law speaks of; it computes nothing.
+#[tactic(auto, using(crate::proofs::Guides::tables_guide))]
 pub fn tables_guide()
     ensures { TablesGuide }
 {}

@@ -5,8 +5,9 @@ use analysis::verdict::check;
 use anyhow::anyhow;
 use held::domains::held_minutes;
 use held::drafts::held_draft;
-use held::lines::sheet_line;
-use held::verdicts::{check_line, nonterminal_line, production_line};
+use held::lines::SheetLine;
+use held::verdicts::{NonterminalLine, ProductionLine, Verdict};
+use sets::found::listed;
 use sets::words::{PredictWords, SetWords};
 use std::env;
 use std::io::Read;
@@ -25,48 +26,48 @@ fn read_sheet(rt: &HostRuntime) -> anyhow::Result<Vec<u8>> {
 // `orders`: what came of the sheet.
 fn read_and_tell(rt: &HostRuntime, table: &Table) -> anyhow::Result<()> {
     let text = read_sheet(rt)?;
-    let line = sheet_line(&text, table, &held_minutes(rt.alloc()), rt.alloc())?;
+    let line = SheetLine::of(&text, table, &held_minutes(rt.alloc()), rt.alloc())?;
     println!(rt; "{line}")?;
     Ok(())
 }
 
 // `orders check`: whether one word decides.
 fn tell_verdict(rt: &HostRuntime, table: &Table) -> anyhow::Result<()> {
-    let line = check_line(check(table, &held_minutes(rt.alloc())), rt.alloc())?;
-    println!(rt; "{line}")?;
+    let verdict = Verdict(check(table, &held_minutes(rt.alloc())));
+    println!(rt; "{verdict}")?;
     Ok(())
 }
 
 // `orders sets`: First and Follow of each nonterminal, and Predict of each production.
 fn tell_sets(rt: &HostRuntime, table: &Table) -> anyhow::Result<()> {
-    let sets = SetWords::of(table);
+    let sets = &SetWords::of(table);
     for nonterminal in 0..table.draft().nonterminals {
-        let line = nonterminal_line(&sets, nonterminal, rt.alloc())?;
-        println!(rt; "{line}")?;
+        println!(rt; "{}", NonterminalLine { sets, nonterminal })?;
     }
-    let predicts = PredictWords::of(table);
-    for production in 0..table.draft().productions.len() {
-        let line = production_line(&predicts, u8::try_from(production)?, rt.alloc())?;
-        println!(rt; "{line}")?;
+    let predicts = &PredictWords::of(table);
+    for production in 0..listed(table).len() as u8 {
+        println!(rt;
+            "{}",
+            ProductionLine {
+                predicts,
+                production
+            }
+        )?;
     }
     Ok(())
 }
 
 fn run(rt: &HostRuntime) -> anyhow::Result<()> {
     let draft = held_draft(rt.alloc())?;
-    if draft.review().is_err() {
-        return Err(anyhow!("the table is refused"));
-    }
+    // Asked first, since nothing that holds a table goes through a Result.
+    draft.review().map_err(|_| anyhow!("the table is refused"))?;
     let table = draft.make();
-    let mut words = env::args(rt)?;
-    let _program = words.next();
-    let Some(command) = words.next() else {
-        return read_and_tell(rt, &table);
-    };
-    match command.as_str() {
-        "check" => tell_verdict(rt, &table),
-        "sets" => tell_sets(rt, &table),
-        _ => Err(anyhow!("usage: orders [check | sets]")),
+    let command = env::args(rt)?.nth(1);
+    match command.as_deref() {
+        None => read_and_tell(rt, &table),
+        Some("check") => tell_verdict(rt, &table),
+        Some("sets") => tell_sets(rt, &table),
+        Some(_) => Err(anyhow!("usage: orders [check | sets]")),
     }
 }
 

@@ -2,20 +2,15 @@
 #![tactic(auto)]
 
 mod numbers;
-mod tables;
 mod told;
 
 use std::io::{BufRead, BufReader};
 use told::told;
 
-fn run(rt: &HostRuntime) -> anyhow::Result<()> {
+fn main(rt: HostRuntime) -> anyhow::Result<()> {
     for line in BufReader::new(rt.alloc(), rt.stdin())?.lines(rt.alloc()) {
         let line = told(rt.alloc(), line?.as_str())?;
         println!(rt; "{line}")?;
     }
     Ok(())
-}
-
-fn main(rt: HostRuntime) -> anyhow::Result<()> {
-    run(&rt)
 }

@@ -1,51 +1,49 @@
 // The numbers of a line, one after the other.
-use anyhow::anyhow;
+use anyhow::{Context, ensure};
+use case_reader::numbers::Numbers;
 use std::alloc::Global;
+use std::slice::Iter;
 
 // The decimal numbers of the line, with single spaces between.
 pub(crate) fn numbers(heap: Global, line: &str) -> anyhow::Result<Vec<u64>> {
-    let mut numbers = Vec::new(heap);
-    for digits in line.split(' ') {
-        numbers.push(digits.parse::<u64>()?)?;
-    }
-    Ok(numbers)
+    line.split(' ')
+        .map(|digits| -> anyhow::Result<u64> { Ok(digits.parse()?) })
+        .try_collect(heap)
 }
 
-// Numbers that are still to be read.
+// Numbers of a line that are still to be read.
 #[derive(Drop)]
-pub struct Rest<'a> {
-    numbers: &'a [u64],
+pub(crate) struct Line<'a> {
+    numbers: Iter<'a, u64>,
 }
 
-impl<'a> Rest<'a> {
-    pub(crate) fn new(numbers: &'a [u64]) -> Rest<'a> {
-        Rest { numbers }
-    }
-
-    pub(crate) fn word(&mut self) -> anyhow::Result<u64> {
-        match self.numbers {
-            [] => Err(anyhow!("the line ends too early")),
-            [number, rest @ ..] => {
-                self.numbers = rest;
-                Ok(*number)
-            }
+impl<'a> Line<'a> {
+    pub(crate) fn new(numbers: &'a [u64]) -> Line<'a> {
+        Line {
+            numbers: numbers.iter(),
         }
-    }
-
-    pub(crate) fn short(&mut self) -> anyhow::Result<u16> {
-        Ok(u16::try_from(self.word()?)?)
-    }
-
-    pub(crate) fn byte(&mut self) -> anyhow::Result<u8> {
-        Ok(u8::try_from(self.word()?)?)
     }
 
     // Nothing may be left.
     pub(crate) fn end(&self) -> anyhow::Result<()> {
-        if self.numbers.is_empty() {
-            Ok(())
-        } else {
-            Err(anyhow!("the line goes on too long"))
-        }
+        ensure!(
+            self.numbers.as_slice().is_empty(),
+            "the line goes on too long"
+        );
+        Ok(())
+    }
+}
+
+impl Numbers for Line<'_> {
+    fn long(&mut self) -> anyhow::Result<u64> {
+        self.numbers
+            .next()
+            .copied()
+            .context("the line ends too early")
+    }
+
+    // A choice may be any number: the reader refuses those that are none.
+    fn choice(&mut self) -> anyhow::Result<u64> {
+        self.long()
     }
 }

@@ -1,41 +1,29 @@
 // The line that tells the sets and the verdict of a case.
-use crate::numbers::{Rest, numbers};
-use crate::tables::read_draft;
-use analysis::faults::CheckFault;
+use crate::numbers::{Line, numbers};
 use analysis::verdict::check;
-use anyhow::anyhow;
+use anyhow::{anyhow, bail};
+use case_reader::domains::read_minutes;
+use case_reader::drafts::read_draft;
+use case_reader::numbers::Numbers;
 use domain::Domain;
-use domain::minutes::Minutes;
 use domain::posts::Posts;
+use held::verdicts::Verdict;
 use sets::found::listed;
 use sets::words::{PredictWords, SetWords};
 use std::alloc::Global;
 use std::fmt::Write;
 
-fn read_minutes(heap: Global, from: &mut Rest<'_>) -> anyhow::Result<Minutes> {
-    let limit = from.short()?;
-    let mut cuts = Vec::new(heap);
-    for _ in 0..from.byte()? {
-        cuts.push(from.short()?)?;
-    }
-    match Minutes::new(limit, cuts) {
-        Ok(minutes) => Ok(minutes),
-        Err(_) => Err(anyhow!("no such Minutes")),
-    }
-}
-
 // For each nonterminal whether it can be empty, its First and Follow sets; for each production its Predict set; and the verdict.
-fn told_with<D: Domain>(heap: Global, from: &mut Rest<'_>, domain: &D) -> anyhow::Result<String> {
+fn told_with<D: Domain>(heap: Global, from: &mut Line<'_>, domain: &D) -> anyhow::Result<String> {
     let draft = read_draft(heap, from)?;
-    if draft.review().is_err() {
-        return Err(anyhow!("the table is refused"));
-    }
+    from.end()?;
+    draft.review().map_err(|_| anyhow!("the table is refused"))?;
     let table = draft.make();
     let sets = SetWords::of(&table);
     let predicts = PredictWords::of(&table);
     let mut told = String::new(heap);
     for a in 0..table.draft().nonterminals {
-        let empty = sets.can_be_empty(a) as u8;
+        let empty = u8::from(sets.can_be_empty(a));
         let first = u64::from(sets.first(a));
         let follow = u64::from(sets.follow(a));
         write!(told, "{empty} {first} {follow} ")?;
@@ -44,36 +32,23 @@ fn told_with<D: Domain>(heap: Global, from: &mut Rest<'_>, domain: &D) -> anyhow
         let predict = u64::from(predicts.get(n));
         write!(told, "{predict} ")?;
     }
-    match check(&table, domain) {
-        Ok(()) => told.push_str("passes")?,
-        Err(CheckFault::ManyClasses { classes }) => write!(told, "classes {classes}")?,
-        Err(
-            CheckFault::TwoClash {
-                a,
-                b,
-                kind,
-                inherited,
-                word,
-            },
-        ) => {
-            write!(told, "clash {a} {b} {kind} {inherited} {word}")?;
-        }
-    }
+    write!(told, "{}", Verdict(check(&table, domain)))?;
     Ok(told)
 }
 
+// The benchmark's cases choose a domain so too: a function of both would need a trait whose method is generic over domains, no plainer.
 pub(crate) fn told(heap: Global, line: &str) -> anyhow::Result<String> {
     let numbers = numbers(heap, line)?;
-    let mut from = Rest::new(&numbers);
-    match from.word()? {
+    let mut from = Line::new(&numbers);
+    match from.long()? {
         1 => {
-            let minutes = read_minutes(heap, &mut from)?;
+            let minutes = read_minutes(heap, &mut from)?.map_err(|_| anyhow!("no such Minutes"))?;
             told_with(heap, &mut from, &minutes)
         }
-        2 => match Posts::new(from.byte()?) {
-            Ok(posts) => told_with(heap, &mut from, &posts),
-            Err(_) => Err(anyhow!("no such Posts")),
-        },
-        _ => Err(anyhow!("no such domain")),
+        2 => {
+            let posts = Posts::new(from.byte()?).map_err(|_| anyhow!("no such Posts"))?;
+            told_with(heap, &mut from, &posts)
+        }
+        _ => bail!("no such domain"),
     }
 }

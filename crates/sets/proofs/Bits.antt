@@ -1,38 +1,12 @@
 -- Bits of numbers, and of the words of a list.
-use Rattle.std.proofs.Common.{◌≡◌, ℕ, zero, suc, ◌+◌, ◌*◌, ◌/◌, ◌%◌, ◌^◌, ◌<◌, ◌≤◌, true, false, ◌&&◌, ◌||◌, eqb, List, length, get_or, set, sym, ap, ◌∙◌, ap₂, ⊎_elim, inl, inr, refl, max, min, one-add, arith, get_or-set_other, get_or-set_same}
+use Rattle.std.proofs.Common.{◌≡◌, ℕ, zero, suc, ◌+◌, ◌/◌, ◌%◌, ◌^◌, ◌<◌, ◌≤◌, true, ◌&&◌, ◌||◌, eqb, List, length, get_or, set, sym, ap, ◌∙◌, ap₂, ⊎_elim, one-add, arith, get_or-set_other, get_or-set_same}
 use mathlib.Core.Bool.{or-false}
-use native.Mathlib.Nat.{div-eq_of_lt}
-use lib.Bits.{bit_and, bit_or}
-use Rattle.std.proofs.lemmas.Nat.{one_shl, pow-add, pow_pos, shr-shr}
+use lib.Bits.{bit_or}
+use Rattle.std.proofs.lemmas.Nat.{pow-add, shr-shr}
 use Rattle.std.proofs.lemmas.Bool.{cases_eq, eq-eqb, ne_eqb}
 use Rattle.std.proofs.lemmas.Bool.Decides.{nat_tests}
-use Rattle.std.proofs.lemmas.Nat.Bits.{bit_at_or, bit_at_and, bit_at-pow_same, bit_at-pow_other, bit_at-lt}
 use Rattle.table.specs.Kinds.{bit}
-
-one_of : (m n : ℕ) → m < 2 → n < 2 → eqb (max m n) 1 ≡ (eqb m 1 || eqb n 1)
-one_of m n p q = grind (arith, nat_tests)
-
-pub bit-bit_or : (x y k : ℕ) → bit (bit_or x y) k ≡ (bit x k || bit y k)
-bit-bit_or x y k = rw bit_at_or (one_of _ _ (bit_at-lt x k) (bit_at-lt y k))
-
-both_of : (m n : ℕ) → m < 2 → n < 2 → eqb (min m n) 1 ≡ (eqb m 1 && eqb n 1)
-both_of m n p q = grind (arith, nat_tests)
-
-pub bit-bit_and : (x y k : ℕ) → bit (bit_and x y) k ≡ (bit x k && bit y k)
-bit-bit_and x y k = rw bit_at_and (both_of _ _ (bit_at-lt x k) (bit_at-lt y k))
-
-pub bit_zero : (k : ℕ) → bit 0 k ≡ false
-bit_zero k = ap (λ n. eqb (n % 2) 1) (div-eq_of_lt (pow_pos k))
-
--- the word with bit j alone
-pub bit_power : (j k : ℕ) → bit (2 ^ j) k ≡ eqb j k
-bit_power j k = elim (cases_eq j k) [
-  | inl e ↦ rw (e, bit_at-pow_same, eq-eqb k k refl) refl
-  | inr ne ↦ rw (bit_at-pow_other j k (λ e. ne (sym e)), ne_eqb j k ne) refl
-]
-
-pub bit_shl : (j k : ℕ) → j < 64 → bit (1 * 2 ^ j % 2 ^ 64) k ≡ eqb j k
-bit_shl j k h = ap (λ n. bit n k) (one_shl j 64 h) ∙ bit_power j k
+use Rattle.table.proofs.Bits.{bit_of_or}
 
 bit_half : (n k : ℕ) → bit (n / 2) k ≡ bit n (suc k)
 bit_half n k =
@@ -48,7 +22,7 @@ bits_le (suc n) a b h within =
     let low : eqb (a / 1 % 2) 1 ≡ true → eqb (b / 1 % 2) 1 ≡ true = within 0 in
     grind (arith, nat_tests)
 
-below_power : (a : ℕ) → a < 2 ^ a
+pub below_power : (a : ℕ) → a < 2 ^ a
 below_power zero = omega arith
 below_power (suc a) = let h = below_power a in omega (arith, pow-add 2 1 a, one-add a)
 
@@ -68,7 +42,7 @@ bit_joined ws b more a k h = ⊎_elim same other (cases_eq b a)
     same : b ≡ a → bit (get_or (set ws b (bit_or (get_or ws b 0) more)) a 0) k ≡ (bit (get_or ws a 0) k || (eqb b a && bit more k))
     same e =
         ap (λ n. bit (get_or (set ws b (bit_or (get_or ws b 0) more)) n 0) k) (sym e)
-        ∙ ap (λ n. bit n k) (get_or-set_same ws b (bit_or (get_or ws b 0) more) 0 h) ∙ bit-bit_or (get_or ws b 0) more k
+        ∙ ap (λ n. bit n k) (get_or-set_same ws b (bit_or (get_or ws b 0) more) 0 h) ∙ bit_of_or (get_or ws b 0) more k
         ∙ ap₂ ◌||◌ (ap (λ n. bit (get_or ws n 0) k) e) (ap (λ t. t && bit more k) (sym (eq-eqb b a e)))
 
     other : (b ≡ a → ⊥) → bit (get_or (set ws b (bit_or (get_or ws b 0) more)) a 0) k ≡ (bit (get_or ws a 0) k || (eqb b a && bit more k))

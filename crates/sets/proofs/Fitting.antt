@@ -1,4 +1,4 @@
--- The kinds and nonterminals of a made table fit words of 64 bits. Assumes nothing.
+-- The kinds and nonterminals of a made table fit words of 64 bits.
 use Rattle.std.proofs.Common.{◌≡◌, ℕ, ◌≤◌, true, ◌&&◌, ltb, leb, List, [], ◌∷◌, map, length, arith}
 use Rattle.std.specs.Int.{is_in_range}
 use Rattle.std.specs.List.{list_all, AllByRecursion}

@@ -1,19 +1,57 @@
--- What one production adds to the Follow sets. Assumes nothing.
-use Rattle.std.proofs.Common.{◌≡◌, ℕ, zero, suc, ◌-◌, ◌*◌, ◌%◌, ◌^◌, ◌<◌, ◌≤◌, Bool, true, false, not, ◌&&◌, ◌||◌, eqb, List, [], ◌∷◌, length, get_or, drop, set, sym, refl, ap, ◌∙◌, ap₂, arith, length-set}
-use mathlib.Core.Bool.{or_assoc, or_comm, or-false}
-use lib.Bits.{bit_or}
-use Rattle.std.proofs.lemmas.Bool.{and_from, and_left, and_right, eqb-false, eqb-true, not-false, not-true, true≢false}
+-- What one production adds to the sets.
+use Rattle.std.proofs.Common.{◌≡◌, ℕ, ◌<◌, Bool, true, false, not, ◌&&◌, ◌||◌, eqb, List, [], ◌∷◌, ◌++◌, length, get_or, set, sym, refl, ap, ◌∙◌, ap₂}
+use mathlib.Core.Bool.{beq, or_assoc, or_comm, or-false}
+use Rattle.std.specs.Cmp.{booleans_Decides}
+use Rattle.std.proofs.lemmas.Bool.{and_from, and_left, and_parts, and_right, eq-eqb, eqb-false, eqb-true, ne_eqb, not-false, not-true, or_left, true≢false}
+use Rattle.std.proofs.lemmas.List.{get_or_default}
 use Rattle.table.specs.declared.drafts.Item.{Item}
 use Rattle.table.specs.declared.drafts.Item.TheVariants.{Kind, Nonterminal, Check}
 use Rattle.table.specs.declared.drafts.Operation.{Operation}
-use Rattle.table.specs.Kinds.{bit}
+use Rattle.table.specs.Kinds.{has}
+use Rattle.sets.specs.declared.runs.Run.{Run}
+use Rattle.sets.specs.declared.words.Known.{Known}
 use Rattle.sets.specs.declared.words.SetWords.{SetWords}
-use Rattle.sets.specs.Rounds.{AddedFollow, Grown, from_left}
+use Rattle.sets.specs.Rounds.{Grown, from_left, with_first, with_follow}
 use Rattle.sets.specs.Rules.{Family, run_empty, run_first, run_inside, run_last}
-use Rattle.sets.specs.Words.{held}
-use Rattle.sets.proofs.Bits.{bit_joined, bit-bit_or, bit_shl}
-use Rattle.sets.proofs.Growing.{grown_none, grown_then, sum_grows, set_same}
-use Rattle.sets.proofs.Walks.{at_item}
+use Rattle.sets.specs.Words.{held, nothing, Tells}
+use Rattle.sets.proofs.Growing.{at_each, grown_at, grown_none, grown_then}
+
+pub same_family : (s t : Family) → ((a : ℕ) → s.empty a ≡ t.empty a) → ((a k : ℕ) → s.first a k ≡ t.first a k)
+    → ((a k : ℕ) → s.follow a k ≡ t.follow a k) → s ≡ t
+same_family s t e f l = λ i. record { empty = λ a. e a i; first = λ a k. f a k i; follow = λ a k. l a k i }
+
+at_same : (t u : Bool) (a : ℕ) → (t || u) ≡ (t || (eqb a a && u))
+at_same t u a = ap (λ b. t || (b && u)) (sym (eq-eqb a a refl))
+
+at_other : (t u : Bool) (a b : ℕ) → (a ≡ b → ⊥) → t ≡ (t || (eqb a b && u))
+at_other t u a b ne = sym (or-false t) ∙ ap (λ c. t || (c && u)) (sym (ne_eqb a b ne))
+
+-- what is read of nonterminal a is what is known, whatever would be read past the last one
+module _ (s : Family) (v : SetWords) (by : ℕ → ℕ → Bool) (a : ℕ) (r : Known) (h : a < length v.nonterminals) (e : held v ≡ with_follow s by) where
+  pub empty_at : (get_or v.nonterminals a r).empty ≡ s.empty a
+  empty_at = ap (λ n. n.empty) (get_or_default v.nonterminals a r nothing h) ∙ ap (λ t. t.empty a) e
+
+  pub first_at : (k : ℕ) → has (get_or v.nonterminals a r).first k ≡ s.first a k
+  first_at k = ap (λ n. has n.first k) (get_or_default v.nonterminals a r nothing h) ∙ ap (λ t. t.first a k) e
+
+pub follow_read : (v : SetWords) (a : ℕ) (r : Known) → a < length v.nonterminals → (k : ℕ) → has (get_or v.nonterminals a r).follow k ≡ (held v).follow a k
+follow_read v a r h k = ap (λ n. has n.follow k) (get_or_default v.nonterminals a r nothing h)
+
+-- `==` of what is known
+abbrev known_eq : Known → Known → Bool
+known_eq n m = beq n.empty m.empty && (eqb n.first m.first && eqb n.follow m.follow)
+
+known_eq-true : (n m : Known) → known_eq n m ≡ true → n ≡ m
+known_eq-true n m h =
+    let (empty, rest) = and_parts _ _ h in
+    let (first, follow) = and_parts _ _ rest in
+    let e : n.empty ≡ m.empty = (booleans_Decides n.empty m.empty).0 empty in
+    let f = eqb-true _ _ first in
+    let l = eqb-true _ _ follow in
+    λ i. record { empty = e i; first = f i; follow = l i }
+
+known_eq-same : (n : Known) → known_eq n n ≡ true
+known_eq-same n = and_from _ _ ((booleans_Decides n.empty n.empty).1 refl) (and_from _ _ (eq-eqb n.first n.first refl) (eq-eqb n.follow n.follow refl))
 
 spread : (x l f : Bool) → (((x && true) || l) && f) ≡ ((l && f) || (x && f))
 spread true true true = refl
@@ -25,151 +63,164 @@ spread false true false = refl
 spread false false true = refl
 spread false false false = refl
 
--- the words with more joined to the Follow set of nonterminal b
-abbrev pub joined_in : SetWords → ℕ → ℕ → SetWords
-joined_in w b more = record { empty = w.empty; first = w.first; follow = set w.follow b (bit_or (get_or w.follow b 0) more) }
-
--- whether that was new
-abbrev pub new_in : SetWords → ℕ → ℕ → Bool
-new_in w b more = not (eqb (bit_or (get_or w.follow b 0) more) (get_or w.follow b 0))
-
-module _ (v : SetWords) where
-  pub followed_none : (by : ℕ → ℕ → Bool) → ((a k : ℕ) → by a k ≡ false) → AddedFollow v by v
-  followed_none by none = record {
-    empty = refl;
-    first = refl;
-    follow = λ a k. sym (or-false ((held v).follow a k)) ∙ ap (λ b. (held v).follow a k || b) (sym (none a k));
+module _ (v : SetWords) (a : ℕ) (r : Known) where
+  -- with another Follow set for nonterminal a
+  abbrev pub grow_follow : ℕ → a < length v.nonterminals → SetWords
+  grow_follow f h = record {
+    nonterminals = set v.nonterminals a (record { empty = (get_or v.nonterminals a r).empty; first = (get_or v.nonterminals a r).first; follow = f });
   }
 
-  pub followed_same : (by more : ℕ → ℕ → Bool) (w : SetWords) → ((a k : ℕ) → more a k ≡ by a k) → AddedFollow v by w → AddedFollow v more w
-  followed_same by more w same d = record {
-    empty = d.empty;
-    first = d.first;
-    follow = λ a k. d.follow a k ∙ ap (λ b. (held v).follow a k || b) (sym (same a k));
+  module _ (f : ℕ) (h : a < length v.nonterminals) where
+    same : get_or v.nonterminals a r ≡ get_or v.nonterminals a nothing
+    same = get_or_default v.nonterminals a r nothing h
+
+    pub put_follow : (more : ℕ → Bool) → ((k : ℕ) → has f k ≡ (has (get_or v.nonterminals a r).follow k || more k))
+        → held (grow_follow f h) ≡ with_follow (held v) (λ b k. eqb a b && more k)
+    put_follow more follow = same_family _ _
+        (at_each (λ b n. n.empty ≡ (held v).empty b) v.nonterminals a _ h (ap (λ n. n.empty) same) (λ b ne. refl))
+        (at_each (λ b n. (k : ℕ) → has n.first k ≡ (held v).first b k) v.nonterminals a _ h (λ k. ap (λ n. has n.first k) same) (λ b ne k. refl))
+        (at_each (λ b n. (k : ℕ) → has n.follow k ≡ ((held v).follow b k || (eqb a b && more k))) v.nonterminals a _ h
+        (λ k. follow k ∙ ap (λ n. has n.follow k || more k) same ∙ at_same _ _ a) (λ b ne k. at_other _ _ a b ne))
+
+    -- this has grown if `new` says so, and else nothing changed
+    pub grown_follow : (new : Bool) → ((k : ℕ) → has (get_or v.nonterminals a r).follow k ≡ true → has f k ≡ true)
+        → new ≡ not (eqb f (get_or v.nonterminals a r).follow) → Grown new v (grow_follow f h)
+    grown_follow new more is = grown_at v a _ new h
+        (record { empty = λ e. ap (λ n. n.empty) same ∙ e; first = λ k e. ap (λ n. has n.first k) same ∙ e; follow = λ k e. more k (ap (λ n. has n.follow k) same ∙ e) })
+        (λ no. let stays = eqb-true _ _ (not-false _ (sym is ∙ no)) in
+        (λ i. record { empty = (get_or v.nonterminals a r).empty; first = (get_or v.nonterminals a r).first; follow = stays i }) ∙ same)
+        (λ yes stays. eqb-false _ _ (not-true _ (sym is ∙ yes)) (ap (λ n. n.follow) (stays ∙ sym same)))
+
+  -- with what a run tells
+  module _ (run : Run) (f : ℕ) (h : a < length v.nonterminals) (joins : (k : ℕ) → has f k ≡ (has (get_or v.nonterminals a r).first k || has run.kinds k)) where
+    abbrev pub now_known : Known
+    now_known = record { empty = (get_or v.nonterminals a r).empty || run.empty; first = f; follow = (get_or v.nonterminals a r).follow }
+
+    known_is : get_or v.nonterminals a r ≡ get_or v.nonterminals a nothing
+    known_is = get_or_default v.nonterminals a r nothing h
+
+    pub put_first : (is : List Item) → Tells (held v) is run → held (record { nonterminals = set v.nonterminals a now_known }) ≡ with_first (held v) a is
+    put_first is tells = same_family _ _
+        (at_each (λ b n. n.empty ≡ ((held v).empty b || (eqb a b && run_empty (held v) is))) v.nonterminals a _ h
+        (ap₂ (λ n t. n.empty || t) known_is tells.empty ∙ at_same _ _ a) (λ b ne. at_other _ _ a b ne))
+        (at_each (λ b n. (k : ℕ) → has n.first k ≡ ((held v).first b k || (eqb a b && run_first (held v) is k))) v.nonterminals a _ h
+        (λ k. joins k ∙ ap₂ (λ n t. has n.first k || t) known_is (tells.kinds k) ∙ at_same _ _ a) (λ b ne k. at_other _ _ a b ne))
+        (at_each (λ b n. (k : ℕ) → has n.follow k ≡ (held v).follow b k) v.nonterminals a _ h (λ k. ap (λ n. has n.follow k) known_is) (λ b ne k. refl))
+
+    pub grown_first : (new : Bool) → new ≡ not (known_eq now_known (get_or v.nonterminals a r)) → Grown new v (record { nonterminals = set v.nonterminals a now_known })
+    grown_first new is = grown_at v a now_known new h
+        (record { empty = λ e. or_left _ _ (ap (λ n. n.empty) known_is ∙ e); first = λ k e. joins k ∙ or_left _ _ (ap (λ n. has n.first k) known_is ∙ e); follow = λ k e. ap (λ n. has n.follow k) known_is ∙ e })
+        (λ no. known_eq-true now_known (get_or v.nonterminals a r) (not-false _ (sym is ∙ no)) ∙ known_is)
+        (λ yes stays. true≢false
+        (sym yes ∙ is ∙ ap (λ n. not (known_eq n (get_or v.nonterminals a r))) (stays ∙ sym known_is) ∙ ap not (known_eq-same (get_or v.nonterminals a r))))
+
+-- more on top of what was added
+pub joined : (s : Family) (by more all : ℕ → ℕ → Bool) → ((a k : ℕ) → all a k ≡ (by a k || more a k)) → with_follow (with_follow s by) more ≡ with_follow s all
+joined s by more all e =
+    same_family _ _ (λ a. refl) (λ a k. refl) (λ a k. or_assoc (s.follow a k) (by a k) (more a k) ∙ ap (λ y. s.follow a k || y) (sym (e a k)))
+
+-- what begins a run, and what stands inside it, are the same whatever Follow sets there are
+module _ (s : Family) (by : ℕ → ℕ → Bool) where
+  run_empty_same : (is : List Item) → run_empty (with_follow s by) is ≡ run_empty s is
+  run_empty_same [] = refl
+  run_empty_same (Kind j ∷ is) = refl
+  run_empty_same (Nonterminal a o ∷ is) = ap (λ b. s.empty a && b) (run_empty_same is)
+  run_empty_same (Check o ∷ is) = run_empty_same is
+
+  run_first_same : (is : List Item) (k : ℕ) → run_first (with_follow s by) is k ≡ run_first s is k
+  run_first_same [] k = refl
+  run_first_same (Kind j ∷ is) k = refl
+  run_first_same (Nonterminal a o ∷ is) k = ap (λ b. s.first a k || (s.empty a && b)) (run_first_same is k)
+  run_first_same (Check o ∷ is) k = run_first_same is k
+
+  pub run_inside_same : (is : List Item) (a k : ℕ) → run_inside (with_follow s by) is a k ≡ run_inside s is a k
+  run_inside_same [] a k = refl
+  run_inside_same (Kind j ∷ is) a k = run_inside_same is a k
+  run_inside_same (Nonterminal b o ∷ is) a k = ap₂ ◌||◌ (ap (λ x. eqb b a && x) (run_first_same is k)) (run_inside_same is a k)
+  run_inside_same (Check o ∷ is) a k = run_inside_same is a k
+
+-- the items passed from the back are done: what they can begin with is known, and the Follow sets have what it gives
+pub record DoneInside (s : Family) (after : ℕ) (t : Family) (passed : List Item) : Type 0 where
+  pub begins : (k : ℕ) → has after k ≡ run_first s passed k
+  pub followed : t ≡ with_follow s (run_inside s passed)
+
+-- at a nonterminal, whose Follow set becomes f
+module _ (s : Family) (v : SetWords) (after : ℕ) (passed : List Item) (d : DoneInside s after (held v) passed) (b : ℕ) (o : Operation) (r : Known) (f : ℕ)
+    (h : b < length v.nonterminals) (follow : (k : ℕ) → has f k ≡ (has (get_or v.nonterminals b r).follow k || has after k)) where
+  followed : held (grow_follow v b r f h) ≡ with_follow s (run_inside s (Nonterminal b o ∷ passed))
+  followed =
+      put_follow v b r f h (has after) follow ∙ ap (λ t. with_follow t (λ a k. eqb b a && has after k)) d.followed
+      ∙ joined s (run_inside s passed) (λ a k. eqb b a && has after k) _
+      (λ a k. or_comm (eqb b a && run_first s passed k) (run_inside s passed a k) ∙ ap (λ y. run_inside s passed a k || (eqb b a && y)) (sym (d.begins k)))
+
+  pub done_past : (both : ℕ) → ((k : ℕ) → has both k ≡ (has (get_or v.nonterminals b r).first k || has after k)) → (get_or v.nonterminals b r).empty ≡ true
+      → DoneInside s both (held (grow_follow v b r f h)) (Nonterminal b o ∷ passed)
+  done_past both begins e = record {
+    begins = λ k.
+        begins k
+        ∙ ap₂ ◌||◌ (first_at s v _ b r h d.followed k) (d.begins k ∙ ap (λ y. y && run_first s passed k) (sym e ∙ empty_at s v _ b r h d.followed));
+    followed = followed;
   }
 
-  pub followed_at : (by more : ℕ → ℕ → Bool) (w : SetWords) (b word : ℕ) → b < length w.follow
-      → ((a k : ℕ) → more a k ≡ (by a k || (eqb b a && bit word k))) → AddedFollow v by w
-      → AddedFollow v more (joined_in w b word)
-  followed_at by more w b word h added d = record {
-    empty = d.empty;
-    first = d.first;
-    follow = λ a k.
-        bit_joined w.follow b word a k h ∙ ap (λ x. x || (eqb b a && bit word k)) (d.follow a k)
-        ∙ or_assoc ((held v).follow a k) (by a k) (eqb b a && bit word k) ∙ ap (λ x. (held v).follow a k || x) (sym (added a k));
+  pub done_at : (get_or v.nonterminals b r).empty ≡ false → DoneInside s (get_or v.nonterminals b r).first (held (grow_follow v b r f h)) (Nonterminal b o ∷ passed)
+  done_at e = record {
+    begins = λ k.
+        first_at s v _ b r h d.followed k ∙ sym (or-false (s.first b k))
+        ∙ ap (λ y. s.first b k || (y && run_first s passed k)) (sym e ∙ empty_at s v _ b r h d.followed);
+    followed = followed;
   }
 
-  inside_more : (rest : List Item) (b : ℕ) (o : Operation) (word : ℕ) → ((k : ℕ) → bit word k ≡ run_first (held v) rest k)
-      → (a k : ℕ) → run_inside (held v) (Nonterminal b o ∷ rest) a k ≡ (run_inside (held v) rest a k || (eqb b a && bit word k))
-  inside_more rest b o word tells a k = or_comm (eqb b a && run_first (held v) rest k) (run_inside (held v) rest a k) ∙ ap (λ x. run_inside (held v) rest a k || (eqb b a && x)) (sym (tells k))
-
-  pub behind_more : (left : ℕ) (rest : List Item) (b : ℕ) (o : Operation) → run_empty (held v) rest ≡ true
-      → (a k : ℕ) → from_left v left (Nonterminal b o ∷ rest) a k ≡ (from_left v left rest a k || (eqb b a && (held v).follow left k))
-  behind_more left rest b o e a k =
-      ap (λ x. ((eqb b a && x) || run_last (held v) rest a) && (held v).follow left k) e
-      ∙ spread (eqb b a) (run_last (held v) rest a) ((held v).follow left k)
-
--- whether a nonterminal can be empty, as the words still have it
-empty_known : (v : SetWords) (by : ℕ → ℕ → Bool) (w : SetWords) (b : ℕ) (e : Bool) → AddedFollow v by w → bit w.empty b ≡ e → (held v).empty b ≡ e
-empty_known v by w b e d is = ap (λ x. bit x b) (sym d.empty) ∙ is
-
--- before items that cannot all be empty, nothing is last
-module _ (s : Family) where
-  not_empty : (is : List Item) (i : ℕ) → run_empty s (drop i is) ≡ false → run_empty s is ≡ false
-  not_empty is zero e = e
-  not_empty [] (suc i) e = absurd (true≢false e)
-  not_empty (Kind k ∷ is) (suc i) e = refl
-  not_empty (Nonterminal a o ∷ is) (suc i) e = and_right (s.empty a) _ (not_empty is i e)
-  not_empty (Check o ∷ is) (suc i) e = not_empty is i e
-
-  pub last_stops : (is : List Item) (i a : ℕ) → run_empty s (drop i is) ≡ false → run_last s is a ≡ run_last s (drop i is) a
-  last_stops is zero a e = refl
-  last_stops [] (suc i) a e = absurd (true≢false e)
-  last_stops (Kind k ∷ is) (suc i) a e = last_stops is i a e
-  last_stops (Nonterminal b o ∷ is) (suc i) a e =
-      ap (λ x. x || run_last s is a) (and_right (eqb b a) _ (not_empty is i e)) ∙ last_stops is i a e
-  last_stops (Check o ∷ is) (suc i) a e = last_stops is i a e
-
-grown_at : (w : SetWords) (b word : ℕ) → b < length w.follow
-    → Grown (new_in w b word) w (joined_in w b word)
-grown_at w b word h = record {
-  firsts = refl;
-  follows = length-set w.follow b _;
-  same = λ e. let f = set_same w.follow b word h (eqb-true _ _ (not-false _ e)) in λ i. record { empty = w.empty; first = w.first; follow = f i };
-  more = λ e. let s = sum_grows w.follow b word h (eqb-false _ _ (not-true _ e)) in omega arith;
-}
-
--- the items from here on are done: what they can begin with is known, and the Follow sets have what it gives
-pub record DoneInside (v : SetWords) (rest : List Item) (after : ℕ) (w : SetWords) : Type 0 where
-  pub begins : (k : ℕ) → bit after k ≡ run_first (held v) rest k
-  pub followed : AddedFollow v (run_inside (held v) rest) w
-
-module _ (v w : SetWords) (rest : List Item) (after : ℕ) (d : DoneInside v rest after w) where
-  pub done_kind : (j : ℕ) → j < 64 → DoneInside v (Kind j ∷ rest) (1 * 2 ^ j % 2 ^ 64) w
-  done_kind j h = record { begins = λ k. bit_shl j k h; followed = followed_same v _ _ w (λ a k. refl) d.followed }
-
-  pub done_check : (o : Operation) → DoneInside v (Check o ∷ rest) after w
-  done_check o = record { begins = d.begins; followed = followed_same v _ _ w (λ a k. refl) d.followed }
-
-  module _ (b : ℕ) (o : Operation) (h : b < length w.follow) where
-    joined : AddedFollow v (run_inside (held v) (Nonterminal b o ∷ rest)) (joined_in w b after)
-    joined = followed_at v _ _ w b after h (inside_more v rest b o after d.begins) d.followed
-
-    first_known : (k : ℕ) → bit (get_or w.first b 0) k ≡ (held v).first b k
-    first_known k = ap (λ ws. bit (get_or ws b 0) k) d.followed.first
-
-    pub done_past : bit w.empty b ≡ true → DoneInside v (Nonterminal b o ∷ rest) (bit_or (get_or w.first b 0) after)
-        (joined_in w b after)
-    done_past e = record {
-      begins = λ k.
-          bit-bit_or (get_or w.first b 0) after k
-          ∙ ap₂ ◌||◌ (first_known k) (d.begins k ∙ ap (λ x. x && run_first (held v) rest k) (sym (empty_known v _ w b true d.followed e)));
-      followed = joined;
-    }
-
-    pub done_at : bit w.empty b ≡ false → DoneInside v (Nonterminal b o ∷ rest) (get_or w.first b 0)
-        (joined_in w b after)
-    done_at e = record {
-      begins = λ k.
-          first_known k ∙ sym (or-false ((held v).first b k))
-          ∙ ap (λ x. (held v).first b k || (x && run_first (held v) rest k)) (sym (empty_known v _ w b false d.followed e));
-      followed = joined;
-    }
-
--- the items from here on can all be empty, and the Follow sets have what that gives
-pub record DoneLast (v : SetWords) (left : ℕ) (rest : List Item) (grown : Bool) (w : SetWords) : Type 0 where
-  pub empty : run_empty (held v) rest ≡ true
-  pub followed : AddedFollow v (from_left v left rest) w
+-- the items passed from the back can all be empty, and the Follow sets have what that gives
+pub record DoneLast (v : SetWords) (left : ℕ) (grown : Bool) (w : SetWords) (passed : List Item) : Type 0 where
+  pub empty : run_empty (held v) passed ≡ true
+  pub followed : held w ≡ with_follow (held v) (from_left (held v) left passed)
   pub growth : Grown grown v w
 
-pub last_none : (v : SetWords) (left : ℕ) → DoneLast v left [] false v
-last_none v left = record { empty = refl; followed = followed_none v _ (λ a k. refl); growth = grown_none v }
+pub last_none : (v : SetWords) (left : ℕ) → DoneLast v left false v []
+last_none v left = record {
+  empty = refl;
+  followed = same_family _ _ (λ a. refl) (λ a k. refl) (λ a k. sym (or-false ((held v).follow a k)));
+  growth = grown_none v;
+}
 
-module _ (v w : SetWords) (left : ℕ) (grown : Bool) where
-  pub last_check : (o : Operation) (rest : List Item) → DoneLast v left rest grown w → DoneLast v left (Check o ∷ rest) grown w
-  last_check o rest d = record { empty = d.empty; followed = followed_same v _ _ w (λ a k. refl) d.followed; growth = d.growth }
+-- at a nonterminal, whose Follow set becomes f, which is new if `new` says so
+module _ (v w : SetWords) (left : ℕ) (grown : Bool) (passed : List Item) (d : DoneLast v left grown w passed) (b : ℕ) (o : Operation) (q r : Known) (f : ℕ) (new : Bool)
+    (here : left < length v.nonterminals) (h : b < length w.nonterminals)
+    (joins : (k : ℕ) → has f k ≡ (has (get_or w.nonterminals b r).follow k || has (get_or v.nonterminals left q).follow k))
+    (is : new ≡ not (eqb f (get_or w.nonterminals b r).follow)) where
+  follow : (k : ℕ) → has f k ≡ (has (get_or w.nonterminals b r).follow k || (held v).follow left k)
+  follow k = joins k ∙ ap (λ t. has (get_or w.nonterminals b r).follow k || t) (follow_read v left q here k)
 
-  -- at a nonterminal, where the word is what can follow the left side
-  module _ (b word : ℕ) (o : Operation) (rest : List Item) (h : b < length w.follow) (d : DoneLast v left rest grown w)
-      (is : (k : ℕ) → bit word k ≡ (held v).follow left k) where
-    pub last_followed : AddedFollow v (from_left v left (Nonterminal b o ∷ rest)) (joined_in w b word)
-    last_followed =
-        followed_at v _ _ w b word h (λ a k. behind_more v left rest b o d.empty a k ∙ ap (λ x. from_left v left rest a k || (eqb b a && x)) (sym (is k)))
-        d.followed
+  pub last_followed : held (grow_follow w b r f h) ≡ with_follow (held v) (from_left (held v) left (Nonterminal b o ∷ passed))
+  last_followed =
+      put_follow w b r f h ((held v).follow left) follow ∙ ap (λ t. with_follow t (λ a k. eqb b a && (held v).follow left k)) d.followed
+      ∙ joined (held v) (from_left (held v) left passed) (λ a k. eqb b a && (held v).follow left k) _
+      (λ a k. ap (λ x. ((eqb b a && x) || run_last (held v) passed a) && (held v).follow left k) d.empty
+      ∙ spread (eqb b a) (run_last (held v) passed a) ((held v).follow left k))
 
-    pub last_growth : Grown (grown || new_in w b word) v (joined_in w b word)
-    last_growth = grown_then grown _ v w (joined_in w b word) d.growth (grown_at w b word h)
+  pub last_growth : Grown (grown || new) v (grow_follow w b r f h)
+  last_growth = grown_then grown new v w _ d.growth (grown_follow w b r f h new (λ k e. follow k ∙ or_left _ _ e) is)
 
-    pub last_past : bit w.empty b ≡ true
-        → DoneLast v left (Nonterminal b o ∷ rest) (grown || new_in w b word) (joined_in w b word)
-    last_past e = record { empty = and_from _ _ (empty_known v _ w b true d.followed e) d.empty; followed = last_followed; growth = last_growth }
+  pub last_past : (get_or w.nonterminals b r).empty ≡ true → DoneLast v left (grown || new) (grow_follow w b r f h) (Nonterminal b o ∷ passed)
+  last_past e = record { empty = and_from _ _ (sym (empty_at (held v) w _ b r h d.followed) ∙ e) d.empty; followed = last_followed; growth = last_growth }
 
-    pub last_not_empty : bit w.empty b ≡ false → run_empty (held v) (Nonterminal b o ∷ rest) ≡ false
-    last_not_empty e = and_left _ _ (empty_known v _ w b false d.followed e)
+  pub last_not_empty : (get_or w.nonterminals b r).empty ≡ false → run_empty (held v) (Nonterminal b o ∷ passed) ≡ false
+  last_not_empty e = and_left _ _ (sym (empty_at (held v) w _ b r h d.followed) ∙ e)
 
--- where the items from here on cannot all be empty, nothing before them is last
-pub last_stopped : (v w : SetWords) (left : ℕ) (is : List Item) (i : ℕ) (item : Item) → 0 < i → i ≤ length is → get_or is (i - 1) (Kind 0) ≡ item
-    → run_empty (held v) (item ∷ drop i is) ≡ false → AddedFollow v (from_left v left (item ∷ drop i is)) w → AddedFollow v (from_left v left is) w
-last_stopped v w left is i item h l e stops d =
-    let (stop, followed) = at_item (λ rest. (run_empty (held v) rest ≡ false) × AddedFollow v (from_left v left rest) w) is i item h l e (stops, d) in
-    followed_same v _ _ w (λ a k. ap (λ x. x && (held v).follow left k) (last_stops (held v) is (i - 1) a stop)) followed
+-- before items that cannot all be empty, nothing is last
+module _ (s : Family) (left : ℕ) (rest : List Item) (stop : run_empty s rest ≡ false) where
+  not_empty : (front : List Item) → run_empty s (front ++ rest) ≡ false
+  not_empty [] = stop
+  not_empty (Kind k ∷ front) = refl
+  not_empty (Nonterminal a o ∷ front) = and_right (s.empty a) _ (not_empty front)
+  not_empty (Check o ∷ front) = not_empty front
+
+  last_stops : (front : List Item) (a : ℕ) → run_last s (front ++ rest) a ≡ run_last s rest a
+  last_stops [] a = refl
+  last_stops (Kind k ∷ front) a = last_stops front a
+  last_stops (Nonterminal b o ∷ front) a = ap (λ x. x || run_last s (front ++ rest) a) (and_right (eqb b a) _ (not_empty front)) ∙ last_stops front a
+  last_stops (Check o ∷ front) a = last_stops front a
+
+  pub last_stopped : (is front : List Item) (t : Family) → is ≡ front ++ rest → t ≡ with_follow s (from_left s left rest) → t ≡ with_follow s (from_left s left is)
+  last_stopped is front t are followed = followed ∙ same_family _ _ (λ a. refl) (λ a k. refl)
+      (λ a k. ap (λ x. s.follow a k || (x && s.follow left k)) (sym (ap (λ js. run_last s js a) are ∙ last_stops front a)))

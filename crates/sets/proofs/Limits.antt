@@ -1,5 +1,5 @@
--- The kinds in the sets are below 64. Assumes nothing.
-use Rattle.std.proofs.Common.{◌≡◌, ℕ, zero, suc, ◌<◌, List, [], ◌∷◌, map, length, get_or, sym, subst, arith, lit<}
+-- The kinds in the sets are below 64.
+use Rattle.std.proofs.Common.{◌≡◌, ℕ, zero, suc, ◌<◌, List, [], ◌∷◌, ◌++◌, map, length, get_or, sym, subst, arith, lit<}
 use Rattle.std.specs.List.{AllByRecursion}
 use Rattle.table.specs.declared.drafts.Item.{Item}
 use Rattle.table.specs.declared.drafts.Production as filled
@@ -10,6 +10,13 @@ use Rattle.sets.specs.Sets.{At, Stands, First, Follow}
 pub all_at : {X : Type 0} (P : X → Type 0) {xs : List X} {n : ℕ} {x : X} → At xs n x → AllByRecursion P xs → P x
 all_at P At.here all = all.0
 all_at P (At.later at) all = all_at P at all.1
+
+pub all_middle : {X : Type 0} (P : X → Type 0) (xs left : List X) (x : X) (right : List X) → xs ≡ left ++ x ∷ right → AllByRecursion P xs → P x
+all_middle P xs left x right e all = middle left (subst (AllByRecursion P) e all)
+  where
+    middle : (left : List _) → AllByRecursion P (left ++ x ∷ right) → P x
+    middle [] all = all.0
+    middle (y ∷ left) all = middle left all.1
 
 module _ (g : List Production) (small : Small g) where
   pub first_below : {is : List Item} {k : ℕ} → First g is k → AllByRecursion SmallItem is → k < 64

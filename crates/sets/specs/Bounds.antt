@@ -1,4 +1,4 @@
--- Kinds and nonterminals that fit words of 64 bits, as those of every table do. Assumes nothing.
+-- Kinds and nonterminals that fit words of 64 bits, as those of every table do.
 use Rattle.std.specs.Prelude.{◌<◌, List}
 use Rattle.std.specs.List.{AllByRecursion}
 use Rattle.table.specs.declared.drafts.Item.{Item}

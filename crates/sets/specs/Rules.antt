@@ -1,4 +1,4 @@
--- The rules of the sets as tests on sets that are given, and what it means to be the smallest sets that meet them. Assumes nothing.
+-- The rules of the sets as tests on sets that are given, and what it means to be the smallest sets that meet them.
 use Rattle.std.specs.Prelude.{◌≡◌, ℕ, Bool, true, false, ◌&&◌, ◌||◌, List, [], ◌∷◌, Decides, ◌==◌}
 use Rattle.table.specs.declared.drafts.Item.{Item}
 use Rattle.table.specs.declared.drafts.Item.TheVariants.{Kind, Nonterminal, Check}

@@ -1,5 +1,5 @@
 -- Which runs of items can be empty, and the First, Follow and Predict sets: the smallest that meet their rules, one constructor for
--- each rule. Assumes nothing.
+-- each rule.
 use Rattle.std.specs.Prelude.{◌≡◌, ℕ, suc, ◌⊎◌, List, [], ◌∷◌}
 use Rattle.table.specs.declared.drafts.Item.{Item}
 use Rattle.table.specs.declared.drafts.Item.TheVariants.{Kind, Nonterminal, Check}

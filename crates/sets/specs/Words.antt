@@ -1,19 +1,24 @@
--- Sets of kinds and of nonterminals as words of 64 bits. Assumes nothing.
-use Rattle.std.specs.Prelude.{◌≡◌, ℕ, Bool, ◌&&◌, ◌||◌, List, Decides, slice_index}
+-- The sets that `SetWords` and the Predict words hold.
+use Rattle.std.specs.Prelude.{◌≡◌, ℕ, Bool, false, ◌&&◌, ◌||◌, List, Decides, slice_index, slice_index_or}
 use Rattle.table.specs.declared.drafts.Item.{Item}
 use Rattle.table.specs.Grammar.{Production}
-use Rattle.table.specs.Kinds.{bit}
+use Rattle.table.specs.Kinds.{bit, has}
+use Rattle.sets.specs.declared.words.Known.{Known}
 use Rattle.sets.specs.declared.words.SetWords.{SetWords}
-use Rattle.sets.specs.declared.words.Run.{Run}
+use Rattle.sets.specs.declared.runs.Run.{Run}
 use Rattle.sets.specs.Rules.{Family, run_empty, run_first}
 use Rattle.sets.specs.Sets.{At, Predict}
 
--- the sets that the words hold
+-- nothing is known of a nonterminal
+abbrev pub nothing : Known
+nothing = record { empty = false; first = 0; follow = 0 }
+
+-- the sets that are held
 abbrev pub held : SetWords → Family
 held w = record {
-  empty = bit w.empty;
-  first = λ a. bit (slice_index w.first a);
-  follow = λ a. bit (slice_index w.follow a);
+  empty = λ a. (slice_index_or w.nonterminals a nothing).empty;
+  first = λ a. has (slice_index_or w.nonterminals a nothing).first;
+  follow = λ a. has (slice_index_or w.nonterminals a nothing).follow;
 }
 
 -- the words are the Predict sets of the productions
@@ -28,4 +33,4 @@ run_predict s p k = run_first s p.items k || (run_empty s p.items && s.follow p.
 -- what the run tells of the items is right
 pub record Tells (s : Family) (is : List Item) (r : Run) : Type 0 where
   pub empty : r.empty ≡ run_empty s is
-  pub kinds : (k : ℕ) → bit r.kinds k ≡ run_first s is k
+  pub kinds : (k : ℕ) → has r.kinds k ≡ run_first s is k

@@ -1,61 +1,50 @@
-// Which nonterminals can be empty, and their First sets: round after round over the productions, until nothing is new.
-ghost use Rattle.std.specs.Prelude.{◌≡◌, ◌<◌, false, map};
-ghost use Rattle.std.specs.List.{AllByRecursion};
+// Which nonterminals can be empty, and their First sets.
+ghost use Rattle.std.specs.Prelude.{◌≡◌};
 ghost use Rattle.table.specs.Grammar.{plain};
-ghost use Rattle.sets.specs.Bounds.{SmallItem, Small};
-ghost use Rattle.sets.specs.Rounds.{AddedFirst, Grown, Sound};
-ghost use Rattle.sets.specs.Rules.{Everywhere, EmptyRule, FirstRule};
+ghost use Rattle.sets.specs.Bounds.{SmallProduction};
+ghost use Rattle.sets.specs.Rounds.{Grown, with_first};
+ghost use Rattle.sets.specs.Rules.{EmptyRule, FirstRule};
 ghost use Rattle.sets.specs.Words.{held};
 
-use crate::words::SetWords;
-use table::drafts::{Item, Production};
+use crate::found::listed;
+use crate::rounds::Rule;
+use crate::words::{Known, SetWords};
+use table::drafts::Production;
+use table::made::Table;
 
-impl SetWords {
-    // Adds what the rules give at a production of this left side and these items, and tells whether that was new.
-    fn add_first(&mut self, left: u8, items: &[Item]) -> bool
-        requires { (left < 64) × (AllByRecursion SmallItem items.now) }
-        ensures added { AddedFirst self.old left items.now self.new }
-        ensures grown { Grown result self.old self.new }
-    {
-        let run = self.run(items);
-        let first = self.first[left as usize] | run.kinds;
-        let empty = if run.empty {
-            self.empty | 1 << left
-        } else {
-            self.empty
-        };
-        let grown = first != self.first[left as usize] || empty != self.empty;
-        self.first[left as usize] = first;
-        self.empty = empty;
-        grown
-    }
+// The rules of Empty and First.
+pub(crate) struct Firsts;
 
-    // One round, from the last production to the first, since a table mostly names a nonterminal before it tells what it is; tells
-    // whether it added something.
-    fn first_round(&mut self, productions: &[Production]) -> bool
-        requires { Small (map plain productions.now) }
-        ensures sound { Sound (map plain productions.now) (held self.old) → Sound (map plain productions.now) (held self.new) }
-        ensures grown { Grown result self.old self.new }
-        ensures empty { result ≡ false → Everywhere (map plain productions.now) (EmptyRule (held self.new)) }
-        ensures first { result ≡ false → Everywhere (map plain productions.now) (FirstRule (held self.new)) }
-        ensures follow { self.new.follow ≡ self.old.follow }
-    {
+impl Rule for Firsts {
+    ghost Met = { λ s p. EmptyRule s p × FirstRule s p };
+
+    // From the last production to the first, since a table mostly names a nonterminal before it tells what it is.
+    fn round(sets: &mut SetWords, table: &Table) -> bool {
         let mut grown = false;
-        for i in (0..productions.len()).rev() {
-            let production = &productions[i];
-            grown |= self.add_first(production.left, &production.items);
+        for production in listed(table).iter().rev() {
+            grown |= sets.add_first(production);
         }
         grown
     }
+}
 
-    // Goes round until nothing is new.
-    pub(crate) fn settle_first(&mut self, productions: &[Production])
-        requires { (Small (map plain productions.now)) × (Sound (map plain productions.now) (held self.old)) }
-        ensures sound { Sound (map plain productions.now) (held self.new) }
-        ensures empty { Everywhere (map plain productions.now) (EmptyRule (held self.new)) }
-        ensures first { Everywhere (map plain productions.now) (FirstRule (held self.new)) }
-        ensures follow { self.new.follow ≡ self.old.follow }
+impl SetWords {
+    // Adds what the rules of Empty and First give at the production, and tells whether that was new.
+    // Why it asks for a small production: see `listed`.
+    fn add_first(&mut self, production: &Production) -> bool
+        requires { SmallProduction (plain production.now) }
+        ensures added { held self.new ≡ with_first (held self.old) production.now.left production.now.items.items }
+        ensures grown { Grown result self.old self.new }
     {
-        while self.first_round(productions) {}
+        let run = self.run(&production.items);
+        let left = production.left as usize;
+        let before = self.nonterminals[left];
+        let after = Known {
+            empty: before.empty | run.empty,
+            first: before.first | run.kinds,
+            ..before
+        };
+        self.nonterminals[left] = after;
+        after != before
     }
 }

@@ -1,34 +1,68 @@
-// The Follow sets: what can begin the items after a nonterminal is added once, and what can follow a left side round after round,
-// until nothing is new.
-ghost use Rattle.std.specs.Prelude.{◌≡◌, ◌<◌, false, map};
-ghost use Rattle.std.specs.List.{AllByRecursion};
-ghost use Rattle.table.specs.Grammar.{plain};
-ghost use Rattle.sets.specs.Bounds.{SmallItem, Small};
-ghost use Rattle.sets.specs.Rounds.{AddedFollow, Grown, Kept, Sound, from_left};
-ghost use Rattle.sets.specs.Rules.{run_inside, Everywhere, InsideRule, LastRule};
+// The Follow sets: what can begin the items after a nonterminal is added once, and what can follow a left side round after round.
+ghost use Rattle.std.specs.Prelude.{◌≡◌};
+ghost use Rattle.table.specs.Grammar.{grammar, plain};
+ghost use Rattle.sets.specs.Bounds.{SmallProduction};
+ghost use Rattle.sets.specs.Rounds.{Grown, Sound, with_follow, from_left};
+ghost use Rattle.sets.specs.Rules.{run_inside, Everywhere, InsideRule, LastRule, Within};
 ghost use Rattle.sets.specs.Words.{held};
 
-use crate::words::SetWords;
+use crate::found::listed;
+use crate::rounds::Rule;
+use crate::runs::only;
+use crate::words::{Known, SetWords};
 use table::drafts::{Item, Production};
+use table::kinds::KindSet;
+use table::made::Table;
+
+// The rule that what can follow a left side can follow the nonterminals at the end of its items.
+pub(crate) struct Lasts;
+
+impl Rule for Lasts {
+    ghost Met = { LastRule };
+
+    fn round(sets: &mut SetWords, table: &Table) -> bool {
+        let mut grown = false;
+        for production in listed(table) {
+            grown |= sets.add_last(production);
+        }
+        grown
+    }
+}
 
 impl SetWords {
-    // Adds to the Follow set of each nonterminal of the items what those after it can begin with.
-    fn add_inside(&mut self, items: &[Item])
-        requires { AllByRecursion SmallItem items.now }
-        ensures { AddedFollow self.old (run_inside (held self.old) items.now) self.new }
+    // Adds what the items after a nonterminal can begin with, at every production.
+    pub(crate) fn inside_round(&mut self, table: &Table)
+        requires { Sound (grammar table.now.draft) (held self.old) }
+        ensures sound { Sound (grammar table.now.draft) (held self.new) }
+        ensures inside { Everywhere (grammar table.now.draft) (InsideRule (held self.new)) }
+        ensures within { Within (held self.old) (held self.new) }
     {
-        let mut after = 0;
-        for i in (0..items.len()).rev() {
-            match items[i] {
-                Item::Kind(kind) => after = 1 << kind,
+        for production in listed(table) {
+            self.add_inside(production);
+        }
+    }
+
+    // Adds to the Follow set of each nonterminal of the items what those after it can begin with.
+    // Why it asks for a small production: see `listed`.
+    fn add_inside(&mut self, production: &Production)
+        requires { SmallProduction (plain production.now) }
+        ensures { held self.new ≡ with_follow (held self.old) (run_inside (held self.old) production.now.items.items) }
+    {
+        let mut after = KindSet::none();
+        for item in production.items.iter().rev() {
+            match *item {
+                Item::Kind(kind) => after = only(kind),
                 Item::Check(_) => {}
                 Item::Nonterminal(a, _) => {
-                    self.follow[a as usize] |= after;
-                    let first = self.first[a as usize];
-                    after = if self.can_be_empty(a) {
-                        first | after
+                    let known = self.nonterminals[a as usize];
+                    self.nonterminals[a as usize] = Known {
+                        follow: known.follow | after,
+                        ..known
+                    };
+                    after = if known.empty {
+                        known.first | after
                     } else {
-                        first
+                        known.first
                     };
                 }
             }
@@ -36,64 +70,29 @@ impl SetWords {
     }
 
     // Adds to the Follow set of each nonterminal at the end of the items what can follow the left side, and tells whether that was new.
-    fn add_last(&mut self, left: u8, items: &[Item]) -> bool
-        requires { (left < 64) × (AllByRecursion SmallItem items.now) }
-        ensures added { AddedFollow self.old (from_left self.old left items.now) self.new }
+    // Why it asks for a small production: see `listed`.
+    fn add_last(&mut self, production: &Production) -> bool
+        requires { SmallProduction (plain production.now) }
+        ensures added { held self.new ≡ with_follow (held self.old) (from_left (held self.old) production.now.left production.now.items.items) }
         ensures grown { Grown result self.old self.new }
     {
-        let behind = self.follow[left as usize];
+        let behind = self.nonterminals[production.left as usize].follow;
         let mut grown = false;
-        for i in (0..items.len()).rev() {
-            match items[i] {
-                Item::Kind(_) => return grown,
+        for item in production.items.iter().rev() {
+            match *item {
+                Item::Kind(_) => break,
                 Item::Check(_) => {}
                 Item::Nonterminal(a, _) => {
-                    let follow = self.follow[a as usize] | behind;
-                    grown |= follow != self.follow[a as usize];
-                    self.follow[a as usize] = follow;
-                    if !self.can_be_empty(a) {
-                        return grown;
+                    let known = self.nonterminals[a as usize];
+                    let follow = known.follow | behind;
+                    self.nonterminals[a as usize] = Known { follow, ..known };
+                    grown |= follow != known.follow;
+                    if !known.empty {
+                        break;
                     }
                 }
             }
         }
         grown
-    }
-
-    // Adds what the items after a nonterminal can begin with, at every production.
-    pub(crate) fn inside_round(&mut self, productions: &[Production])
-        requires { (Small (map plain productions.now)) × (Sound (map plain productions.now) (held self.old)) }
-        ensures sound { Sound (map plain productions.now) (held self.new) }
-        ensures inside { Everywhere (map plain productions.now) (InsideRule (held self.new)) }
-        ensures kept { Kept self.old self.new }
-    {
-        for production in productions {
-            self.add_inside(&production.items);
-        }
-    }
-
-    // One round of adding what can follow the left sides; tells whether it added something.
-    fn last_round(&mut self, productions: &[Production]) -> bool
-        requires { Small (map plain productions.now) }
-        ensures sound { Sound (map plain productions.now) (held self.old) → Sound (map plain productions.now) (held self.new) }
-        ensures grown { Grown result self.old self.new }
-        ensures last { result ≡ false → Everywhere (map plain productions.now) (LastRule (held self.new)) }
-        ensures kept { Kept self.old self.new }
-    {
-        let mut grown = false;
-        for production in productions {
-            grown |= self.add_last(production.left, &production.items);
-        }
-        grown
-    }
-
-    // Goes round until nothing is new.
-    pub(crate) fn settle_follow(&mut self, productions: &[Production])
-        requires { (Small (map plain productions.now)) × (Sound (map plain productions.now) (held self.old)) }
-        ensures sound { Sound (map plain productions.now) (held self.new) }
-        ensures last { Everywhere (map plain productions.now) (LastRule (held self.new)) }
-        ensures kept { Kept self.old self.new }
-    {
-        while self.last_round(productions) {}
     }
 }

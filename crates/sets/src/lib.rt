@@ -4,5 +4,6 @@
 mod firsts;
 mod follows;
 pub mod found;
+mod rounds;
 mod runs;
 pub mod words;

@@ -1,4 +1,4 @@
--- Where and why a sheet is denied. Assumes nothing.
+-- Where and why a sheet is denied.
 use Rattle.std.specs.Prelude.{ℕ, List, ◌++◌, codes, decimal}
 use Rattle.sheet.specs.declared.faults.Denial.{Denial}
 use Rattle.sheet.specs.declared.faults.Fault.{Fault}

@@ -1,4 +1,4 @@
--- The kinds of a sheet's words. Assumes nothing.
+-- The kinds of a sheet's words.
 use Rattle.std.specs.Prelude.{◌≡◌, ℕ, ◌+◌, cond, List, [], ◌∷◌, ◌++◌, length, Ok, Err, vec_items, Result, Vec, nat_le}
 use Rattle.std.specs.declared.alloc.Global.{Global}
 use Rattle.domain.specs.Meaning.{Meaning}

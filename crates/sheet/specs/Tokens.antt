@@ -1,4 +1,4 @@
--- What a word offers. Assumes nothing.
+-- What a word offers.
 use Rattle.std.specs.Prelude.{List, Ok, Err, Result}
 use Rattle.std.specs.Option.{ok_or}
 use Rattle.domain.specs.Meaning.{Meaning}

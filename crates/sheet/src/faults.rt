@@ -7,14 +7,14 @@ use std::fmt;
 use text::faults::{TextFault, ValueFault};
 
 // The fault of a lower layer, whole.
-#[derive(Clone, Copy, Debug)]
+#[derive(Clone, Copy, PartialEq, Eq, Debug)]
 pub enum Fault {
     Text(TextFault),
     Value(ValueFault),
 }
 
 impl Fault {
-    // The refusal's number.
+    // The refusal's number. A method, since `u8::from` would not say which number.
     pub fn number(self) -> u8
         ensures { result ≡ refusal self }
     {
@@ -42,7 +42,7 @@ impl From<ValueFault> for Fault {
 }
 
 // A fault with its byte place, counted from 0, and the number of its word, counted from 1.
-#[derive(Clone, Copy, Debug)]
+#[derive(Clone, Copy, PartialEq, Eq, Debug)]
 pub struct Denial {
     pub fault: Fault,
     pub byte: usize,
@@ -54,9 +54,8 @@ impl fmt::Display for Denial {
     ghost output = { λ d. Some (denial_line d) };
 
     fn fmt<W: fmt::Write>(&self, f: &mut fmt::Formatter<W>) -> fmt::Result {
-        let number = self.fault.number();
-        let byte = self.byte;
-        let word = self.word;
+        let Denial { fault, byte, word } = self;
+        let number = fault.number();
         write!(f, "denied {number} byte {byte} word {word}")
     }
 }

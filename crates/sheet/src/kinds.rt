@@ -1,22 +1,30 @@
 // The kinds of a sheet's words.
 ghost use Rattle.std.specs.Prelude.{◌≡◌, Ok, Err};
 ghost use Rattle.table.specs.Rules.{spellings};
-ghost use Rattle.sheet.specs.declared.kinds.KindsError.TheVariants.{NoMemory};
+ghost use Rattle.sheet.specs.declared.kinds.KindsError.TheVariants.{Denied, NoMemory};
 ghost use Rattle.sheet.specs.Kinds.{Told, sheet_kinds};
 
 use crate::faults::Denial;
 use crate::tokens::tokenize;
 use domain::Domain;
-use std::alloc::{AllocError, AllocFailed, Global};
+use std::alloc::{AllocFailed, Global};
 use table::made::Table;
 use text::cursor::Cursor;
 use text::lexemes::check_length;
 
 // Why the kinds were not told.
-#[derive(Clone, Copy, Debug)]
+#[derive(Clone, Copy, PartialEq, Eq, Debug)]
 pub enum KindsError {
     Denied(Denial),
     NoMemory,
+}
+
+impl From<Denial> for KindsError {
+    ghost from_gives = { λ denial r. r ≡ Denied denial };
+
+    fn from(denial: Denial) -> KindsError {
+        KindsError::Denied(denial)
+    }
 }
 
 impl From<AllocFailed<u8>> for KindsError {
@@ -36,27 +44,23 @@ pub fn kinds<D: Domain>(
 ) -> Result<Vec<u8>, KindsError>
     ensures { Told (sheet_kinds (D.meaning domain.now) (spellings table.now.draft) text.now) result }
 {
-    if let Err(fault) = check_length(text) {
-        return Err(KindsError::Denied(Denial {
-            fault: fault.into(),
-            byte: 0,
-            word: 0,
-        }));
-    }
+    check_length(text).map_err(|fault| Denial {
+        fault: fault.into(),
+        byte: 0,
+        word: 0,
+    })?;
     let mut kinds = Vec::new(heap);
     let mut cursor = Cursor::new(text);
     while let Some(word) = cursor.next() {
-        match tokenize(&word, table, domain) {
-            Ok(token) => kinds.push(token.kind)?,
-            Err(fault) => {
-                let byte = word.place();
-                return Err(KindsError::Denied(Denial {
-                    fault,
-                    byte,
-                    word: cursor.count(),
-                }));
-            }
-        }
+        // asked before the closure, since the proof stays open where the closure asks
+        let byte = word.place();
+        let number = cursor.count();
+        let token = tokenize(&word, table, domain).map_err(|fault| Denial {
+            fault,
+            byte,
+            word: number,
+        })?;
+        kinds.push(token.kind)?;
     }
     Ok(kinds)
 }

@@ -1,4 +1,4 @@
--- The productions of a draft as plain lists: all that sets, derivations and readers speak of. Assumes nothing.
+-- The productions of a draft as plain lists: all that sets, derivations and readers speak of.
 use Rattle.std.specs.Prelude.{ℕ, Bool, List, map, vec_items}
 use Rattle.table.specs.declared.drafts.Draft.{Draft}
 use Rattle.table.specs.declared.drafts.Item.{Item}

@@ -1,4 +1,4 @@
--- The numbers of refusals. Assumes nothing.
+-- The numbers of refusals.
 use Rattle.std.specs.Prelude.{ℕ}
 use Rattle.table.specs.declared.faults.TableFault.{TableFault}
 use Rattle.table.specs.declared.faults.TableFault.TheVariants.{CountOutside, NoLeftSide, TooManyItems, NoSymbol, NoSlot, BadLetters, NoProduction, BadSpelling}

@@ -1,7 +1,7 @@
--- The rules of a table, and the lowest that a draft breaks. Assumes nothing.
-use Rattle.std.specs.Prelude.{ℕ, zero, suc, ◌+◌, Bool, true, false, cond, not, ◌&&◌, ◌||◌, ltb, leb, List, [], ◌∷◌, length, is_some, Some, None, vec_items, Option, ◌==◌, nat_le, nat_lt}
+-- The rules of a table, and the lowest that a draft breaks.
+use Rattle.std.specs.Prelude.{ℕ, ◌+◌, Bool, true, cond, not, ◌&&◌, ltb, leb, List, [], ◌∷◌, length, is_some, Some, None, vec_items, Option, ◌==◌, nat_le, nat_lt}
 use Rattle.std.specs.Int.{is_in_range}
-use Rattle.std.specs.List.{list_all}
+use Rattle.std.specs.List.{list_all, list_any, enumerate_from, range_with_len}
 use Rattle.table.specs.declared.drafts.Draft.{Draft}
 use Rattle.table.specs.declared.drafts.Item.{Item}
 use Rattle.table.specs.declared.drafts.Item.TheVariants.{Kind, Nonterminal, Check}
@@ -42,24 +42,21 @@ item_slots_fit slot (Kind k) = true
 item_slots_fit slot (Nonterminal a o) = slots_below slot o
 item_slots_fit slot (Check o) = slots_below slot o
 
--- the first item fills the slot, and each later one the next
-abbrev pub run_slots_fit : ℕ → List Item → Bool
-run_slots_fit slot [] = true
-run_slots_fit slot (i ∷ is) = item_slots_fit slot i && run_slots_fit (slot + 1) is
+-- item i, counted from 0, fills slot i + 1 and names only slots below it
+abbrev pub run_slots_fit : List Item → Bool
+run_slots_fit is = list_all (λ placed. item_slots_fit (placed.0 + 1) placed.1) (enumerate_from 0 is)
 
--- the items fill slots from 1 on, and the result names slots from 0 to the count of items
+-- the items name such slots, and the result names slots from 0 to their count
 abbrev pub slots_fit : Production → Bool
-slots_fit p = run_slots_fit 1 (items p) && slots_below (length (items p) + 1) p.result
+slots_fit p = run_slots_fit (items p) && slots_below (length (items p) + 1) p.result
 
 -- some production has left side a
 abbrev pub derived : List Production → ℕ → Bool
-derived [] a = false
-derived (p ∷ ps) a = p.left == a || derived ps a
+derived ps a = list_any (λ p. p.left == a) ps
 
 -- each nonterminal below n is some left side
 abbrev pub all_derived : ℕ → List Production → Bool
-all_derived zero ps = true
-all_derived (suc n) ps = derived ps n && all_derived n ps
+all_derived n ps = list_all (derived ps) (range_with_len 0 n)
 
 -- the rule that a refusal says is broken
 unfoldable pub kept : TableFault → Draft → Bool

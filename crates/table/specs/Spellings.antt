@@ -1,5 +1,5 @@
--- Words that stand for a kind and a number. Assumes nothing.
-use Rattle.std.specs.Prelude.{ℕ, Bool, true, cond, not, ◌&&◌, List, [], ◌∷◌, length, is_some, Some, None, vec_items, Option}
+-- Words that stand for a kind and a number.
+use Rattle.std.specs.Prelude.{ℕ, Bool, true, not, ◌&&◌, List, [], ◌∷◌, length, find, is_some, vec_items, Option}
 use Rattle.std.specs.Int.{is_in_range}
 use Rattle.std.specs.List.{list_all}
 use Rattle.std.specs.Str.{bytes_eq}
@@ -17,8 +17,7 @@ lettered s = is_in_range 1 12 (length (letters s)) && list_all (is_in_range 33 1
 
 -- the first spelling that equals the word, byte for byte
 abbrev pub spelled : List Spelling → List ℕ → Option Spelling
-spelled [] word = None
-spelled (s ∷ ss) word = cond (bytes_eq (letters s) word) (Some s) (spelled ss word)
+spelled ss word = find (λ s. bytes_eq (letters s) word) ss
 
 -- no two spellings are equal
 abbrev pub distinct : List Spelling → Bool

@@ -1,4 +1,4 @@
--- Where a cursor stands in its text. Assumes nothing.
+-- Where a cursor stands in its text.
 use Rattle.std.specs.Prelude.{false, List, drop}
 use Rattle.text.specs.declared.cursor.Cursor.{Cursor}
 use Rattle.text.specs.Words.{Seen, words_from}

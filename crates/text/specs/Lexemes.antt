@@ -1,5 +1,5 @@
--- The kind and the number of a word. Assumes nothing.
-use Rattle.std.specs.Prelude.{ℕ, ◌+◌, ◌-◌, ◌*◌, cond, ◌&&◌, List, [], ◌∷◌, length, Some, None, Ok, Err, Option, Result, nat_le}
+-- The kind and the number of a word.
+use Rattle.std.specs.Prelude.{ℕ, ◌+◌, ◌-◌, ◌*◌, cond, ◌&&◌, List, length, fold, Some, None, Ok, Err, Option, Result, nat_le}
 use Rattle.table.specs.declared.drafts.Spelling.{Spelling}
 use Rattle.table.specs.Spellings.{spelled}
 use Rattle.text.specs.declared.faults.TextFault.{TextFault}
@@ -9,8 +9,7 @@ use Rattle.text.specs.Words.{Seen}
 
 -- the number that decimal digits write, after those that were read
 abbrev pub digits_value : ℕ → List ℕ → ℕ
-digits_value read [] = read
-digits_value read (d ∷ ds) = digits_value (read * 10 + (d - 48)) ds
+digits_value = fold (λ read digit. read * 10 + (digit - 48))
 
 -- a number word has up to five digits and writes at most 65,535; its kind is 0
 abbrev pub number_lexeme : List ℕ → Result Lexeme TextFault

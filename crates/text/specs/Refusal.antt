@@ -1,4 +1,4 @@
--- The numbers of refusals. Assumes nothing.
+-- The numbers of refusals.
 use Rattle.std.specs.Prelude.{ℕ}
 use Rattle.text.specs.declared.faults.TextFault.{TextFault}
 use Rattle.text.specs.declared.faults.TextFault.TheVariants.{TooLong, NoSpelling, NumberTooLarge}

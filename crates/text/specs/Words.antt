@@ -1,7 +1,9 @@
--- The words of a text. Assumes nothing.
-use Rattle.std.specs.Prelude.{ℕ, suc, Bool, true, false, cond, ◌||◌, List, [], ◌∷◌, ◌==◌}
+-- The words of a text.
+use Rattle.std.specs.Prelude.{ℕ, suc, Bool, true, false, cond, ◌||◌, List, [], ◌∷◌, ◌==◌, take}
 use Rattle.std.specs.Bool.{beq}
+use Rattle.std.specs.List.{prefix_len}
 use Rattle.table.specs.Spellings.{digits_alone}
+use Rattle.text.specs.declared.words.Run.{Run}
 use Rattle.text.specs.declared.words.Word.{Word}
 use Rattle.text.specs.declared.words.Word.TheVariants.{Number, Spelled}
 
@@ -11,6 +13,11 @@ pub record Seen : Type 0 where
   pub place : ℕ
   pub letters : List ℕ
 
+-- the part of the text that the word is
+abbrev pub run : Word → Run
+run (Number part) = part
+run (Spelled part) = part
+
 abbrev pub seen : Word → Seen
 seen (Number run) = record { is_number = true; place = run.place; letters = run.letters.now }
 seen (Spelled run) = record { is_number = false; place = run.place; letters = run.letters.now }
@@ -19,14 +26,21 @@ seen (Spelled run) = record { is_number = false; place = run.place; letters = ru
 abbrev pub separates : ℕ → Bool
 separates byte = byte == 32 || byte == 10
 
+-- how many bytes separate, or do not, from the first one on
+abbrev pub front_len : Bool → List ℕ → ℕ
+front_len separating = prefix_len (λ byte. beq (separates byte) separating)
+
 -- the longest front of bytes that separate, or of bytes that do not
 abbrev pub front : Bool → List ℕ → List ℕ
-front separating [] = []
-front separating (b ∷ bs) = cond (beq (separates b) separating) (b ∷ front separating bs) []
+front separating bytes = take (front_len separating bytes) bytes
 
--- a word is a longest run of bytes that do not separate; digits alone make a number word
+-- letters as a word: digits alone make a number word
+abbrev pub word_of : ℕ → List ℕ → Seen
+word_of place letters = record { is_number = digits_alone letters; place = place; letters = letters }
+
+-- a word is a longest run of bytes that do not separate
 abbrev pub word_at : ℕ → List ℕ → Seen
-word_at place bytes = record { is_number = digits_alone (front false bytes); place = place; letters = front false bytes }
+word_at place bytes = word_of place (front false bytes)
 
 -- the words from a place on: one begins at each byte that does not separate, unless the byte before it belongs to a word
 abbrev pub words_from : Bool → ℕ → List ℕ → List Seen

@@ -14,7 +14,7 @@ pub enum TextFault {
 }
 
 impl TextFault {
-    // The refusal's number.
+    // The refusal's number. A method, since `u8::from` would not say which number.
     pub fn number(self) -> u8
         ensures { result ≡ text_refusal self }
     {
@@ -34,7 +34,7 @@ pub enum ValueFault {
 }
 
 impl ValueFault {
-    // The refusal's number.
+    // The refusal's number. A method, since `u8::from` would not say which number.
     pub fn number(self) -> u8
         ensures { result ≡ value_refusal self }
     {

@@ -1,6 +1,7 @@
 use Rattle.std.proofs.Common.{◌∙◌}
-use Rattle.sets.proofs.Settling.{zeros}
+use Rattle.sets.proofs.Settling.{get_or-replicated}
 use Rattle.sets.proofs.words.PredictWords.of.Goals as goal
 
-pub returns : goal.returns
-returns c = record { predicted = c.write_predicts.ensures.written; past = λ n h. c.write_predicts.ensures.kept n h ∙ zeros 126 n }
+pub returns-clause-past : goal.returns-clause-past
+returns-clause-past c n past =
+    c.write_predicts.ensures.kept n past ∙ get_or-replicated 0 126 n

@@ -1,0 +1,16 @@
+// Domains as cases write them.
+use crate::numbers::Numbers;
+use domain::DomainFault;
+use domain::minutes::Minutes;
+use std::alloc::Global;
+
+// A limit, and a count of cuts: the Minutes of them, or their refusal.
+pub fn read_minutes<N: Numbers>(
+    heap: Global,
+    from: &mut N,
+) -> anyhow::Result<Result<Minutes, DomainFault>> {
+    let limit = from.short()?;
+    let count = from.count()?;
+    let cuts = (0..count).map(|_| from.short()).try_collect(heap)?;
+    Ok(Minutes::new(limit, cuts))
+}

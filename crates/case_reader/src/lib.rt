@@ -1,0 +1,6 @@
+// Domains and drafts as cases write them, whatever their numbers come from.
+#![tactic(auto)]
+
+pub mod domains;
+pub mod drafts;
+pub mod numbers;
