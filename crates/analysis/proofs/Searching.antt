@@ -119,7 +119,7 @@ module _ (c : Classes) (g : List Production) where
     common_none {k = k} none clash = false≢true (sym (bit_zero k) ∙ ap (λ w. bit w k) (sym none) ∙ kind_common clash)
 
     pub kind_below : {a b k i j : ℕ} → get_or kinds a 0 < 2 ^ 64 → Clash c g a b k i j → k < 64
-    kind_below {a = a} {k = k} fits clash = bit_within (get_or kinds a 0) k fits (contested.all clash).0
+    kind_below {a = a} {k = k} fits clash = bit_within (get_or kinds a 0) 64 k fits (contested.all clash).0
 
   -- no test has a place
   pub none_placed : (kinds : List ℕ) → Contested g kinds → (t : Tests) → AllPlaced g kinds t → t.count ≡ 0 → ClashFree c g

@@ -1,2 +1,4 @@
 pub mod Bits
+pub mod Loops
+pub mod Refusals
 pub mod Sound

@@ -24,6 +24,18 @@ pub enum TableFault {
 }
 
 impl TableFault {
+    // All refusals, in the order of their numbers.
+    pub const ALL: [TableFault; 8] = [
+        TableFault::CountOutside,
+        TableFault::NoLeftSide,
+        TableFault::TooManyItems,
+        TableFault::NoSymbol,
+        TableFault::NoSlot,
+        TableFault::BadLetters,
+        TableFault::NoProduction,
+        TableFault::BadSpelling,
+    ];
+
     // The refusal's number. A method, since `u8::from` would not say which number.
     pub fn number(self) -> u8
         ensures { result ≡ refusal self }

@@ -81,7 +81,7 @@ impl KindSet {
     }
 
     // Whether the kind is in the set.
-    #[tactic(auto, using(crate::proofs::Bits::bit_past))]
+    #[tactic(auto, using(crate::proofs::Bits::word_past))]
     pub fn has(self, kind: u8) -> bool
         ensures { result ≡ has self kind }
     {
@@ -89,7 +89,7 @@ impl KindSet {
     }
 
     // The set with the kind left out.
-    #[tactic(auto, using(crate::proofs::Bits::bit_within, crate::proofs::Bits::bit_without))]
+    #[tactic(auto, using(crate::proofs::Bits::word_within, crate::proofs::Bits::word_without))]
     pub fn without(self, kind: u8) -> KindSet
         ensures { (k : ℕ) → has result k ≡ (not (k == kind) && has self k) }
     {
