@@ -62,7 +62,9 @@ impl Domain for Minutes {
     }
 
     fn class(&self, value: u16) -> u16 {
-        self.cuts.iter().filter(|cut| **cut <= value).count() as u16
+        // Counted by a fold, in 16 bits: with `filter` and `count` Minutes of seven cuts took a third longer.
+        let raised = |class: u16, cut: &u16| class.wrapping_add(u16::from(*cut <= value));
+        self.cuts.iter().fold(0, raised)
     }
 
     fn rule(&self, number: u8, first: u16, second: u16) -> u16 {
