@@ -3,7 +3,7 @@ use Rattle.std.proofs.Common.{◌≡◌, ℕ, Bool, false, ◌||◌, ◌⊎◌, 
 use Rattle.std.proofs.lemmas.Bool.{cases_eq, and_parts, and_from, or_cases, or_left, or_right, or_parts, eq-eqb, eqb-true}
 use Rattle.table.specs.Grammar.{Production}
 use Rattle.sets.specs.declared.words.SetWords.{SetWords}
-use Rattle.sets.specs.Rounds.{Grown, Sound, from_left, with_first, with_follow}
+use Rattle.sets.specs.Rounds.{Grown, Sound, firsts_alone, from_left, with_first, with_follow}
 use Rattle.sets.specs.Rules.{Family, run_inside, Everywhere, EmptyRule, FirstRule, InsideRule, LastRule, Within}
 use Rattle.sets.specs.Sets.{At, Follow}
 use Rattle.sets.specs.Words.{held}
@@ -58,6 +58,7 @@ pub record InsideSoFar (g : List Production) (s : Family) (n : ℕ) (t : Family)
   pub sound : Sound g t
   pub within : Within s t
   pub inside : (m : ℕ) (p : Production) → m < n → At g m p → InsideRule t p
+  pub others : firsts_alone t ≡ firsts_alone s
 
 pub inside_more : (g : List Production) (n : ℕ) (here : Production) (s t : Family) → At g n here → InsideSoFar g s n t
     → InsideSoFar g s (n + 1) (with_follow t (run_inside t here.items))
@@ -72,23 +73,25 @@ inside_more g n here s t at d = record {
             or_right _ _ (ap (λ q. run_inside t q.items a k) same ∙ inside)
         | inr ne ↦ or_left _ _ (d.inside m p (omega (arith, ne)) there a k inside)
       ];
+  others = d.others;
 }
 
--- a round so far: what the sets hold, whether they have grown, and at which places the rule is met if they have not
-pub record Going (g : List Production) (Rule : Family → Production → Type 0) (Done : ℕ → Type 0) (grown : Bool) (v w : SetWords) : Type 0 where
+-- a round so far: what the sets hold, whether they have grown, at which places the rule is met if they have not, and which stay as they are
+pub record Going (g : List Production) (Rule : Family → Production → Type 0) (Others : Family → Family) (Done : ℕ → Type 0) (grown : Bool) (v w : SetWords) : Type 0 where
   pub sound : Sound g (held v) → Sound g (held w)
   pub growth : Grown grown v w
   pub met : grown ≡ false → (n : ℕ) (p : Production) → Done n → At g n p → Rule (held v) p
+  pub others : Others (held w) ≡ Others (held v)
 
-module _ (g : List Production) (Rule : Family → Production → Type 0) where
-  pub going_none : (Done : ℕ → Type 0) (w : SetWords) → ((n : ℕ) (p : Production) → Done n → At g n p → ⊥) → Going g Rule Done false w w
-  going_none Done w none = record { sound = λ s. s; growth = grown_none w; met = λ e n p done at. absurd (none n p done at) }
+module _ (g : List Production) (Rule : Family → Production → Type 0) (Others : Family → Family) where
+  pub going_none : (Done : ℕ → Type 0) (w : SetWords) → ((n : ℕ) (p : Production) → Done n → At g n p → ⊥) → Going g Rule Others Done false w w
+  going_none Done w none = record { sound = λ s. s; growth = grown_none w; met = λ e n p done at. absurd (none n p done at); others = refl }
 
   -- one production further
   pub going_more : (Done Next : ℕ → Type 0) (r q : Bool) (u v w : SetWords) (m : ℕ) (here : Production) → At g m here
       → ((n : ℕ) → Next n → Done n ⊎ (n ≡ m)) → (Sound g (held v) → Sound g (held w)) → Grown q v w → (held v ≡ held w → Rule (held v) here)
-      → Going g Rule Done r u v → Going g Rule Next (r || q) u w
-  going_more Done Next r q u v w m here stands next keeps growth rule before = record {
+      → Others (held w) ≡ Others (held v) → Going g Rule Others Done r u v → Going g Rule Others Next (r || q) u w
+  going_more Done Next r q u v w m here stands next keeps growth rule same before = record {
     sound = λ s. keeps (before.sound s);
     growth = grown_then r q u v w before.growth growth;
     met = λ e n p done at.
@@ -97,8 +100,9 @@ module _ (g : List Production) (Rule : Family → Production → Type 0) where
         (λ i. subst (Rule (held u)) (at_one stands (subst (λ j. At g j p) i at))
         (subst (λ x. Rule (held x) here) (before.growth.same before_same) (rule (ap held (sym (growth.same now-same))))))
         (next n done);
+    others = same ∙ before.others;
   }
 
-  pub going_all : (Done : ℕ → Type 0) (grown : Bool) (v w : SetWords) → ((n : ℕ) (p : Production) → At g n p → Done n) → Going g Rule Done grown v w → grown ≡ false
+  pub going_all : (Done : ℕ → Type 0) (grown : Bool) (v w : SetWords) → ((n : ℕ) (p : Production) → At g n p → Done n) → Going g Rule Others Done grown v w → grown ≡ false
       → Everywhere g (Rule (held w))
   going_all Done grown v w all going e n p at = subst (λ x. Rule (held x) p) (sym (going.growth.same e)) (going.met e n p (all n p at) at)

@@ -50,6 +50,14 @@ with_first s left is = record {
 abbrev pub with_follow : Family → (ℕ → ℕ → Bool) → Family
 with_follow s by = record { empty = s.empty; first = s.first; follow = λ a k. s.follow a k || by a k }
 
+-- Follow alone, which the rules of Empty and First leave as it is
+abbrev pub follow_alone : Family → Family
+follow_alone s = record { empty = λ a. false; first = λ a k. false; follow = s.follow }
+
+-- Empty and First alone, which what is added to Follow leaves as they are
+abbrev pub firsts_alone : Family → Family
+firsts_alone s = record { empty = s.empty; first = s.first; follow = λ a k. false }
+
 -- what can follow the left side, at each nonterminal after which all items can be empty
 abbrev pub from_left : Family → ℕ → List Item → ℕ → ℕ → Bool
 from_left s left is a k = run_last s is a && s.follow left k

@@ -2,7 +2,7 @@
 ghost use Rattle.std.specs.Prelude.{◌≡◌};
 ghost use Rattle.table.specs.Grammar.{plain};
 ghost use Rattle.sets.specs.Bounds.{SmallProduction};
-ghost use Rattle.sets.specs.Rounds.{Grown, with_first};
+ghost use Rattle.sets.specs.Rounds.{Grown, follow_alone, with_first};
 ghost use Rattle.sets.specs.Rules.{EmptyRule, FirstRule};
 ghost use Rattle.sets.specs.Words.{held};
 
@@ -17,6 +17,8 @@ pub(crate) struct Firsts;
 
 impl Rule for Firsts {
     ghost Met = { λ s p. EmptyRule s p × FirstRule s p };
+
+    ghost others = { follow_alone };
 
     // From the last production to the first, since a table mostly names a nonterminal before it tells what it is.
     fn round(sets: &mut SetWords, table: &Table) -> bool {

@@ -2,7 +2,7 @@
 ghost use Rattle.std.specs.Prelude.{◌≡◌};
 ghost use Rattle.table.specs.Grammar.{grammar, plain};
 ghost use Rattle.sets.specs.Bounds.{SmallProduction};
-ghost use Rattle.sets.specs.Rounds.{Grown, Sound, with_follow, from_left};
+ghost use Rattle.sets.specs.Rounds.{Grown, Sound, firsts_alone, with_follow, from_left};
 ghost use Rattle.sets.specs.Rules.{run_inside, Everywhere, InsideRule, LastRule, Within};
 ghost use Rattle.sets.specs.Words.{held};
 
@@ -20,6 +20,8 @@ pub(crate) struct Lasts;
 impl Rule for Lasts {
     ghost Met = { LastRule };
 
+    ghost others = { firsts_alone };
+
     fn round(sets: &mut SetWords, table: &Table) -> bool {
         let mut grown = false;
         for production in listed(table) {
@@ -36,6 +38,7 @@ impl SetWords {
         ensures sound { Sound (grammar table.now.draft) (held self.new) }
         ensures inside { Everywhere (grammar table.now.draft) (InsideRule (held self.new)) }
         ensures within { Within (held self.old) (held self.new) }
+        ensures others { firsts_alone (held self.new) ≡ firsts_alone (held self.old) }
     {
         for production in listed(table) {
             self.add_inside(production);

@@ -15,7 +15,8 @@ use table::drafts::Production;
 use table::kinds::{END_MARK, KindSet};
 use table::made::Table;
 
-// What is known of a nonterminal: whether it can be empty, and its First and Follow sets.
+// What is known of a nonterminal: whether it can be empty, and its First and Follow sets. No Option, as in `Run`: the sets count whether it
+// can be empty or not.
 #[derive(Clone, Copy, PartialEq, Eq)]
 pub(crate) struct Known {
     pub(crate) empty: bool,

@@ -1,3 +1,4 @@
+use Rattle.std.proofs.Common.{◌≡◌}
 use Rattle.table.specs.Grammar.{grammar}
 use Rattle.sets.specs.Rounds.{Sound}
 use Rattle.sets.specs.Rules.{Within}
@@ -9,6 +10,7 @@ abbrev pub invariant-loop : goal.invariant-loop
 invariant-loop g l = record {
   sound : Sound (grammar l.table.draft) (held l.self);
   within : Within (held l.initial.self) (held l.self);
+  others : g.R.Rule.others (held l.self) ≡ g.R.Rule.others (held l.initial.self);
 }
 
 abbrev pub decreases-loop : goal.decreases-loop
