@@ -2,20 +2,19 @@
 ghost use Rattle.std.specs.Prelude.{◌≡◌, ℕ, ◌≤◌, length, slice_index};
 ghost use Rattle.table.specs.Grammar.{grammar};
 ghost use Rattle.sets.specs.Words.{Predicted};
-ghost use Rattle.analysis.specs.Clashes.{ClashFree};
 ghost use Rattle.analysis.specs.Verdict.{Passes};
 
 use domain::Domain;
 use sets::words::PredictWords;
 use table::made::Table;
 
-// A passed table: it keeps its domain, and its Predict sets.
+// A passed table: it keeps its domain, and its Predict sets. That no two productions clash is what `pass` requires, and no field: it would
+// ask `D: Domain` of whoever names the type.
 #[derive(Drop)]
-pub struct Passed<D: Domain> {
+pub struct Passed<D> {
     pub(crate) table: Table,
     pub(crate) domain: D,
     pub(crate) predicts: PredictWords,
-    ghost free: { ClashFree (D.meaning domain).classes (grammar table.draft) },
     ghost right: { ∥ Predicted (grammar table.draft) predicts.words ∥₁ },
 }
 
@@ -35,7 +34,7 @@ pub fn pass<D: Domain>(table: Table, domain: D) -> Passed<D>
     }
 }
 
-impl<D: Domain> Passed<D> {
+impl<D> Passed<D> {
     pub fn table(&self) -> &Table
         ensures { result.now ≡ self.now.table }
     {
