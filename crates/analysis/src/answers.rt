@@ -37,7 +37,7 @@ impl<'a, D: Domain, const N: usize> Answers<'a, D, N> {
         }
     }
 
-    // Whether the test says yes at any classes. It is asked unless it was before.
+    // Whether the test says yes at any classes. It is asked unless it was before. No Option of rows: see `Testable::ask`.
     pub(crate) fn ask(&mut self, test: u8) -> bool
         requires { Placed self.old.tests.now test }
         ensures never { result ≡ false → Never (D.meaning self.new.domain.now.domain.now).classes test }

@@ -29,7 +29,9 @@ fn apart(one: &[u64; 64], other: &[u64; 64]) -> bool
 
 // The first clash in the order of productions a and b, kind and classes. A test is asked when two productions of one left side have a
 // kind in common. There is room for the answers of N tests. The kinds stand beside their table and not in a struct with it: a ghost field
-// holds `Contested` only truncated, and the proof of what was found needs its data.
+// holds `Contested` only truncated, and the proof of what was found needs its data. Never inlined, so that the rooms of different sizes and
+// domains take no stack beside one another.
+#[inline(never)]
 pub(crate) fn first_clash<D: Domain, const N: usize>(
     domain: &Testable<'_, D>,
     table: &Table,
@@ -69,6 +71,7 @@ pub(crate) fn first_clash<D: Domain, const N: usize>(
             if apart(one, other) {
                 continue;
             }
+            // Nested loops with the first clash of all, left by a label, and no chain: a form that is wanted here.
             for kind in 0..64 {
                 if common >> kind & 1 != 1 {
                     continue;
