@@ -1,5 +1,6 @@
 // The bytes of a case, one after the other.
-use anyhow::{Context, ensure};
+use anyhow::ensure;
+use case_reader::faults::CaseError;
 use case_reader::numbers::Numbers;
 
 // Bytes that are still to be read.
@@ -14,11 +15,8 @@ impl<'a> Bytes<'a> {
     }
 
     // So many bytes from the front.
-    fn take<const N: usize>(&mut self) -> anyhow::Result<[u8; N]> {
-        let (front, rest) = self
-            .bytes
-            .split_first_chunk()
-            .context("the case ends too early")?;
+    fn take<const N: usize>(&mut self) -> Result<[u8; N], CaseError> {
+        let (front, rest) = self.bytes.split_first_chunk().ok_or(CaseError::EndsEarly)?;
         self.bytes = rest;
         Ok(*front)
     }
@@ -32,15 +30,15 @@ impl<'a> Bytes<'a> {
 
 // Numbers as wide as they may be, the high byte first.
 impl Numbers for Bytes<'_> {
-    fn byte(&mut self) -> anyhow::Result<u8> {
+    fn byte(&mut self) -> Result<u8, CaseError> {
         Ok(u8::from_be_bytes(self.take()?))
     }
 
-    fn short(&mut self) -> anyhow::Result<u16> {
+    fn short(&mut self) -> Result<u16, CaseError> {
         Ok(u16::from_be_bytes(self.take()?))
     }
 
-    fn long(&mut self) -> anyhow::Result<u64> {
+    fn long(&mut self) -> Result<u64, CaseError> {
         Ok(u64::from_be_bytes(self.take()?))
     }
 }

@@ -1,4 +1,5 @@
 // Domains as cases write them.
+use crate::faults::CaseError;
 use crate::numbers::Numbers;
 use domain::DomainFault;
 use domain::minutes::Minutes;
@@ -8,7 +9,7 @@ use std::alloc::Global;
 pub fn read_minutes<N: Numbers>(
     heap: Global,
     from: &mut N,
-) -> anyhow::Result<Result<Minutes, DomainFault>> {
+) -> Result<Result<Minutes, DomainFault>, CaseError> {
     let limit = from.short()?;
     let count = from.count()?;
     let cuts = (0..count).map(|_| from.short()).try_collect(heap)?;

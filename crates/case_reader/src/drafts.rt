@@ -1,13 +1,13 @@
 // Drafts of tables as cases write them.
 ghost use Rattle.std.specs.Prelude.{◌≡◌, [], IfOk};
 
+use crate::faults::CaseError;
 use crate::numbers::Numbers;
-use anyhow::bail;
 use std::alloc::Global;
 use table::drafts::{Draft, Item, Operation, Production};
 use table::kinds::KindSet;
 
-fn read_operation<N: Numbers>(from: &mut N) -> anyhow::Result<Operation> {
+fn read_operation<N: Numbers>(from: &mut N) -> Result<Operation, CaseError> {
     Ok(Operation {
         number: from.byte()?,
         first: from.byte()?,
@@ -15,16 +15,16 @@ fn read_operation<N: Numbers>(from: &mut N) -> anyhow::Result<Operation> {
     })
 }
 
-fn read_item<N: Numbers>(from: &mut N) -> anyhow::Result<Item> {
+fn read_item<N: Numbers>(from: &mut N) -> Result<Item, CaseError> {
     match from.choice()? {
         1 => Ok(Item::Kind(from.byte()?)),
         2 => Ok(Item::Nonterminal(from.byte()?, read_operation(from)?)),
         3 => Ok(Item::Check(read_operation(from)?)),
-        _ => bail!("no such item"),
+        _ => Err(CaseError::NoItem),
     }
 }
 
-fn read_production<N: Numbers>(heap: Global, from: &mut N) -> anyhow::Result<Production> {
+fn read_production<N: Numbers>(heap: Global, from: &mut N) -> Result<Production, CaseError> {
     let left = from.byte()?;
     let test = from.byte()?;
     let sight = KindSet::from(from.long()?);
@@ -41,7 +41,7 @@ fn read_production<N: Numbers>(heap: Global, from: &mut N) -> anyhow::Result<Pro
 }
 
 // A draft without spellings.
-pub fn read_draft<N: Numbers>(heap: Global, from: &mut N) -> anyhow::Result<Draft>
+pub fn read_draft<N: Numbers>(heap: Global, from: &mut N) -> Result<Draft, CaseError>
     ensures { IfOk result (λ draft. draft.spellings.items ≡ []) }
 {
     let nonterminals = from.byte()?;

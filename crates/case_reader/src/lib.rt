@@ -3,4 +3,5 @@
 
 pub mod domains;
 pub mod drafts;
+pub mod faults;
 pub mod numbers;

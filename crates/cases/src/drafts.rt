@@ -2,11 +2,12 @@
 use crate::answers::Answer;
 use crate::words::Words;
 use case_reader::drafts::read_draft;
+use case_reader::faults::CaseError;
 use case_reader::numbers::Numbers;
 use std::alloc::Global;
 use table::drafts::Spelling;
 
-fn read_spelling(heap: Global, words: &mut Words<'_>) -> anyhow::Result<Spelling> {
+fn read_spelling(heap: Global, words: &mut Words<'_>) -> Result<Spelling, CaseError> {
     Ok(Spelling {
         kind: words.byte()?,
         number: words.short()?,

@@ -1,8 +1,7 @@
 // The words of the cases, one after the other.
-use anyhow::bail;
+use case_reader::faults::CaseError;
 use case_reader::numbers::Numbers;
 use std::alloc::Global;
-use std::str;
 use text::cursor::Cursor;
 use text::words::Word;
 
@@ -25,21 +24,29 @@ impl<'a> Words<'a> {
     }
 
     // A count, and so many bytes.
-    pub(crate) fn bytes(&mut self, heap: Global) -> anyhow::Result<Vec<u8>> {
+    pub(crate) fn bytes(&mut self, heap: Global) -> Result<Vec<u8>, CaseError> {
         let count = self.count()?;
         (0..count).map(|_| self.byte()).try_collect(heap)
     }
 }
 
 impl Numbers for Words<'_> {
-    fn long(&mut self) -> anyhow::Result<u64> {
+    fn long(&mut self) -> Result<u64, CaseError> {
         let Some(Word::Number(run)) = self.cursor.next() else {
-            bail!("no number");
+            return Err(CaseError::NoNumber);
         };
-        Ok(str::from_utf8(run.letters)?.parse()?)
+        // Not by `parse`, which wants the digits as a `str` and goes over them twice.
+        run.letters
+            .iter()
+            .try_fold(0_u64, |number, digit| {
+                number
+                    .checked_mul(10)?
+                    .checked_add(u64::from(digit.saturating_sub(b'0')))
+            })
+            .ok_or(CaseError::NoNumber)
     }
 
-    fn count(&mut self) -> anyhow::Result<u64> {
+    fn count(&mut self) -> Result<u64, CaseError> {
         self.long()
     }
 }

@@ -1,13 +1,14 @@
 // The numbers of a line, one after the other.
-use anyhow::{Context, ensure};
+use anyhow::ensure;
+use case_reader::faults::CaseError;
 use case_reader::numbers::Numbers;
 use std::alloc::Global;
 use std::slice::Iter;
 
 // The decimal numbers of the line, with single spaces between.
-pub(crate) fn numbers(heap: Global, line: &str) -> anyhow::Result<Vec<u64>> {
+pub(crate) fn numbers(heap: Global, line: &str) -> Result<Vec<u64>, CaseError> {
     line.split(' ')
-        .map(|digits| -> anyhow::Result<u64> { Ok(digits.parse()?) })
+        .map(|digits| digits.parse::<u64>().map_err(CaseError::BadDigits))
         .try_collect(heap)
 }
 
@@ -35,15 +36,12 @@ impl<'a> Line<'a> {
 }
 
 impl Numbers for Line<'_> {
-    fn long(&mut self) -> anyhow::Result<u64> {
-        self.numbers
-            .next()
-            .copied()
-            .context("the line ends too early")
+    fn long(&mut self) -> Result<u64, CaseError> {
+        self.numbers.next().copied().ok_or(CaseError::EndsEarly)
     }
 
     // A choice may be any number: the reader refuses those that are none.
-    fn choice(&mut self) -> anyhow::Result<u64> {
+    fn choice(&mut self) -> Result<u64, CaseError> {
         self.long()
     }
 }
