@@ -71,7 +71,7 @@ pub(crate) fn first_clash<D: Domain, const N: usize>(
             if apart(one, other) {
                 continue;
             }
-            // Nested loops with the first clash of all, left by a label, and no chain: a form that is wanted here.
+            // Nested loops, left by a label at the first clash of all, and no chain: so its five numbers stand in their order.
             for kind in 0..64 {
                 if common >> kind & 1 != 1 {
                     continue;

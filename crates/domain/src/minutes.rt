@@ -62,7 +62,7 @@ impl Domain for Minutes {
     }
 
     fn class(&self, value: u16) -> u16 {
-        // Counted by a fold, in 16 bits: with `filter` and `count` Minutes of seven cuts took a third longer.
+        // Counted by a fold, in 16 bits: `filter` and `count` take nearly twice the time over seven cuts.
         let raised = |class: u16, cut: &u16| class.wrapping_add(u16::from(*cut <= value));
         self.cuts.iter().fold(0, raised)
     }

@@ -53,7 +53,7 @@ module _ (p : Production) (s : Family) where
   pub met_last : s ≡ with_follow s (from_left s p.left p.items) → LastRule s p
   met_last e a k last follows = ap (λ t. t.follow a k) e ∙ or_right _ _ (and_from _ _ last follows)
 
--- what comes inside the productions, as far as place n: the sets have grown from s to t
+-- what comes inside the productions, as far as place n: the sets have grown from s to t, Empty and First not at all
 pub record InsideSoFar (g : List Production) (s : Family) (n : ℕ) (t : Family) : Type 0 where
   pub sound : Sound g t
   pub within : Within s t
@@ -77,7 +77,8 @@ inside_more g n here s t at d = record {
 }
 
 -- a round so far: what the sets hold, whether they have grown, at which places the rule is met if they have not, and which stay as they are
-pub record Going (g : List Production) (Rule : Family → Production → Type 0) (Others : Family → Family) (Done : ℕ → Type 0) (grown : Bool) (v w : SetWords) : Type 0 where
+pub record Going (g : List Production) (Rule : Family → Production → Type 0) (Others : Family → Family) (Done : ℕ → Type 0)
+    (grown : Bool) (v w : SetWords) : Type 0 where
   pub sound : Sound g (held v) → Sound g (held w)
   pub growth : Grown grown v w
   pub met : grown ≡ false → (n : ℕ) (p : Production) → Done n → At g n p → Rule (held v) p
@@ -103,6 +104,6 @@ module _ (g : List Production) (Rule : Family → Production → Type 0) (Others
     others = same ∙ before.others;
   }
 
-  pub going_all : (Done : ℕ → Type 0) (grown : Bool) (v w : SetWords) → ((n : ℕ) (p : Production) → At g n p → Done n) → Going g Rule Others Done grown v w → grown ≡ false
-      → Everywhere g (Rule (held w))
+  pub going_all : (Done : ℕ → Type 0) (grown : Bool) (v w : SetWords) → ((n : ℕ) (p : Production) → At g n p → Done n)
+      → Going g Rule Others Done grown v w → grown ≡ false → Everywhere g (Rule (held w))
   going_all Done grown v w all going e n p at = subst (λ x. Rule (held x) p) (sym (going.growth.same e)) (going.met e n p (all n p at) at)

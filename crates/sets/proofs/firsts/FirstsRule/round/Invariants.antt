@@ -11,5 +11,5 @@ use Rattle.sets.proofs.firsts.FirstsRule.round.Given as goal
 abbrev pub invariant-loop-production : goal.invariant-loop-production
 invariant-loop-production l =
     FromBack l.table.draft.productions.items (iter_rest (rev_source l.production-iterator))
-    (λ passed. Going (grammar l.table.draft) (λ s p. EmptyRule s p × FirstRule s p) follow_alone (λ n. length (iter_rest (rev_source l.production-iterator)) ≤ n) l.grown
-    l.initial.sets l.sets)
+    (λ passed. Going (grammar l.table.draft) (λ s p. EmptyRule s p × FirstRule s p) follow_alone
+    (λ n. length (iter_rest (rev_source l.production-iterator)) ≤ n) l.grown l.initial.sets l.sets)
