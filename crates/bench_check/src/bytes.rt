@@ -1,7 +1,7 @@
 // The bytes of a case, one after the other.
 use anyhow::ensure;
 use case_reader::faults::CaseError;
-use case_reader::numbers::Numbers;
+use case_reader::numbers::CaseNumbers;
 
 // Bytes that are still to be read.
 #[derive(Drop)]
@@ -29,7 +29,7 @@ impl<'a> Bytes<'a> {
 }
 
 // Numbers as wide as they may be, the high byte first.
-impl Numbers for Bytes<'_> {
+impl CaseNumbers for Bytes<'_> {
     fn byte(&mut self) -> Result<u8, CaseError> {
         Ok(u8::from_be_bytes(self.take()?))
     }

@@ -8,9 +8,9 @@ use analysis::faults::{CheckFault, Clash};
 use analysis::verdict::check;
 use anyhow::{anyhow, bail};
 use bytes::Bytes;
-use case_reader::domains::read_minutes;
-use case_reader::drafts::read_draft;
-use case_reader::numbers::Numbers;
+use case_reader::domains::read_case_minutes;
+use case_reader::drafts::read_case_draft;
+use case_reader::numbers::CaseNumbers;
 use domain::Domain;
 use domain::posts::Posts;
 use std::alloc::Global;
@@ -44,7 +44,7 @@ fn sum<D: Domain>(
     domain: &D,
     runs: u32,
 ) -> anyhow::Result<u64> {
-    let draft = read_draft(heap, from)?;
+    let draft = read_case_draft(heap, from)?;
     from.end()?;
     draft.review().map_err(|_| anyhow!("the table is refused"))?;
     let table = draft.make();
@@ -59,7 +59,9 @@ fn case_sum(heap: Global, bytes: &[u8], runs: u32) -> anyhow::Result<u64> {
     let mut from = Bytes::new(bytes);
     match from.byte()? {
         1 => {
-            let minutes = read_minutes(heap, &mut from)?.map_err(|_| anyhow!("no such Minutes"))?;
+            let minutes = read_case_minutes(heap, &mut from)?.map_err(|_| anyhow!(
+                "no such Minutes"
+            ))?;
             sum(heap, &mut from, &minutes, runs)
         }
         2 => {

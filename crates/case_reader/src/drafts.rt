@@ -2,12 +2,13 @@
 ghost use Rattle.std.specs.Prelude.{◌≡◌, [], IfOk};
 
 use crate::faults::CaseError;
-use crate::numbers::Numbers;
+use crate::numbers::{CaseNumbers, Numbers};
+use crate::own_errors::OwnErrors;
 use std::alloc::Global;
 use table::drafts::{Draft, Item, Operation, Production};
 use table::kinds::KindSet;
 
-fn read_operation<N: Numbers>(from: &mut N) -> Result<Operation, CaseError> {
+fn read_operation<N: CaseNumbers>(from: &mut N) -> Result<Operation, CaseError> {
     Ok(Operation {
         number: from.byte()?,
         first: from.byte()?,
@@ -15,7 +16,7 @@ fn read_operation<N: Numbers>(from: &mut N) -> Result<Operation, CaseError> {
     })
 }
 
-fn read_item<N: Numbers>(from: &mut N) -> Result<Item, CaseError> {
+fn read_item<N: CaseNumbers>(from: &mut N) -> Result<Item, CaseError> {
     match from.choice()? {
         1 => Ok(Item::Kind(from.byte()?)),
         2 => Ok(Item::Nonterminal(from.byte()?, read_operation(from)?)),
@@ -24,7 +25,7 @@ fn read_item<N: Numbers>(from: &mut N) -> Result<Item, CaseError> {
     }
 }
 
-fn read_production<N: Numbers>(heap: Global, from: &mut N) -> Result<Production, CaseError> {
+fn read_production<N: CaseNumbers>(heap: Global, from: &mut N) -> Result<Production, CaseError> {
     let left = from.byte()?;
     let test = from.byte()?;
     let sight = KindSet::from(from.long()?);
@@ -41,7 +42,15 @@ fn read_production<N: Numbers>(heap: Global, from: &mut N) -> Result<Production,
 }
 
 // A draft without spellings.
-pub fn read_draft<N: Numbers>(heap: Global, from: &mut N) -> Result<Draft, CaseError>
+pub fn read_draft<N: Numbers>(heap: Global, from: &mut N) -> anyhow::Result<Draft>
+    ensures { IfOk result (λ draft. draft.spellings.items ≡ []) }
+{
+    let mut numbers = OwnErrors::of(from);
+    read_case_draft(heap, &mut numbers).map_err(|error| numbers.why(error))
+}
+
+// The same, from numbers with small errors.
+pub fn read_case_draft<N: CaseNumbers>(heap: Global, from: &mut N) -> Result<Draft, CaseError>
     ensures { IfOk result (λ draft. draft.spellings.items ≡ []) }
 {
     let nonterminals = from.byte()?;

@@ -5,3 +5,6 @@ pub mod domains;
 pub mod drafts;
 pub mod faults;
 pub mod numbers;
+mod own_errors;
+#[cfg(test)]
+mod tests;

@@ -2,8 +2,8 @@
 use crate::answers::Answer;
 use crate::words::Words;
 use anyhow::{Context, anyhow, bail};
-use case_reader::domains::read_minutes;
-use case_reader::numbers::Numbers;
+use case_reader::domains::read_case_minutes;
+use case_reader::numbers::CaseNumbers;
 use domain::posts::{PostSet, Posts};
 use domain::{Domain, DomainFault};
 use std::alloc::Global;
@@ -96,7 +96,7 @@ where
 }
 
 pub(crate) fn minutes_case(heap: Global, words: &mut Words<'_>) -> anyhow::Result<Answer> {
-    answer(read_minutes(heap, words)?, words)
+    answer(read_case_minutes(heap, words)?, words)
 }
 
 pub(crate) fn posts_case(words: &mut Words<'_>) -> anyhow::Result<Answer> {

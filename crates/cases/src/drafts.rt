@@ -1,9 +1,9 @@
 // Drafts of tables, reviewed and made.
 use crate::answers::Answer;
 use crate::words::Words;
-use case_reader::drafts::read_draft;
+use case_reader::drafts::read_case_draft;
 use case_reader::faults::CaseError;
-use case_reader::numbers::Numbers;
+use case_reader::numbers::CaseNumbers;
 use std::alloc::Global;
 use table::drafts::Spelling;
 
@@ -16,7 +16,7 @@ fn read_spelling(heap: Global, words: &mut Words<'_>) -> Result<Spelling, CaseEr
 }
 
 pub(crate) fn draft_case(heap: Global, words: &mut Words<'_>) -> anyhow::Result<Answer> {
-    let mut draft = read_draft(heap, words)?;
+    let mut draft = read_case_draft(heap, words)?;
     let count = words.count()?;
     draft.spellings = (0..count)
         .map(|_| read_spelling(heap, words))

@@ -2,7 +2,7 @@
 use crate::answers::Answer;
 use crate::words::Words;
 use anyhow::anyhow;
-use case_reader::numbers::Numbers;
+use case_reader::numbers::CaseNumbers;
 use held::domains::held_minutes;
 use held::drafts::held_draft;
 use held::lines::SheetLine;

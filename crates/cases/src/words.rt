@@ -1,6 +1,6 @@
 // The words of the cases, one after the other.
 use case_reader::faults::CaseError;
-use case_reader::numbers::Numbers;
+use case_reader::numbers::CaseNumbers;
 use std::alloc::Global;
 use text::cursor::Cursor;
 use text::words::Word;
@@ -30,7 +30,7 @@ impl<'a> Words<'a> {
     }
 }
 
-impl Numbers for Words<'_> {
+impl CaseNumbers for Words<'_> {
     fn long(&mut self) -> Result<u64, CaseError> {
         let Some(Word::Number(run)) = self.cursor.next() else {
             return Err(CaseError::NoNumber);

@@ -1,7 +1,7 @@
 // The numbers of a line, one after the other.
 use anyhow::ensure;
 use case_reader::faults::CaseError;
-use case_reader::numbers::Numbers;
+use case_reader::numbers::CaseNumbers;
 use std::alloc::Global;
 use std::slice::Iter;
 
@@ -35,7 +35,7 @@ impl<'a> Line<'a> {
     }
 }
 
-impl Numbers for Line<'_> {
+impl CaseNumbers for Line<'_> {
     fn long(&mut self) -> Result<u64, CaseError> {
         self.numbers.next().copied().ok_or(CaseError::EndsEarly)
     }

@@ -2,9 +2,9 @@
 use crate::numbers::{Line, numbers};
 use analysis::verdict::check;
 use anyhow::{anyhow, bail};
-use case_reader::domains::read_minutes;
-use case_reader::drafts::read_draft;
-use case_reader::numbers::Numbers;
+use case_reader::domains::read_case_minutes;
+use case_reader::drafts::read_case_draft;
+use case_reader::numbers::CaseNumbers;
 use domain::Domain;
 use domain::posts::Posts;
 use held::verdicts::Verdict;
@@ -15,7 +15,7 @@ use std::fmt::Write;
 
 // For each nonterminal whether it can be empty, its First and Follow sets; for each production its Predict set; and the verdict.
 fn told_with<D: Domain>(heap: Global, from: &mut Line<'_>, domain: &D) -> anyhow::Result<String> {
-    let draft = read_draft(heap, from)?;
+    let draft = read_case_draft(heap, from)?;
     from.end()?;
     draft.review().map_err(|_| anyhow!("the table is refused"))?;
     let table = draft.make();
@@ -42,7 +42,9 @@ pub(crate) fn told(heap: Global, line: &str) -> anyhow::Result<String> {
     let mut from = Line::new(&numbers);
     match from.long()? {
         1 => {
-            let minutes = read_minutes(heap, &mut from)?.map_err(|_| anyhow!("no such Minutes"))?;
+            let minutes = read_case_minutes(heap, &mut from)?.map_err(|_| anyhow!(
+                "no such Minutes"
+            ))?;
             told_with(heap, &mut from, &minutes)
         }
         2 => {
